@@ -1,15 +1,15 @@
 -- The loops over a tree's branches and over a merge, and which of them serves a list.
 use Prim.Native.Nat.{ℕ, ◌+◌, ◌<◌, ◌≤◌}
 use mathlib.Core.Path.{◌≡◌, refl, sym, ap, ◌∙◌, subst}
-use mathlib.Core.Bool.{Bool, true, false, cond, true≢false}
+use mathlib.Core.Bool.{Bool, true, false, true≢false}
 use mathlib.Core.List.{List, [], ◌∷◌, map, nil≢cons}
 use mathlib.Core.Option.{Option, some}
+use Rattle.std.specs.Prelude as Prelude
+use Rattle.std.specs.Prelude.{Some, None, slice_get}
+use Rattle.std.proofs.lemmas.Option.{none-some, same_Some}
 use native.Mathlib.Omega.{arith}
-use native.Mathlib.Decide.{ℕ_discrete}
-use lib.Dec.{eqb}
 use lib.IntN.{ℤ}
 use lib.ListN.{length, get_or, take, drop}
-use borrow.Author.Tests.{eq-eqb, ne_eqb}
 use Rattle.source.specs.Text.{Str, starts_with}
 use Rattle.source.specs.Types.{Level, Value, NameList, ns, []ᴺ}
 use Rattle.source.specs.Trees.{PathElem}
@@ -17,25 +17,24 @@ use Rattle.source.specs.Terms.{depth, depth_names}
 use Rattle.source.specs.Listing.{SearchTerm, NSTAll, NSTNone, NSTPrefix, revmap_onto, names_revmap, matching_values, names_find_rev_first}
 use Rattle.source.specs.Lists.{nonempty, merge_nonempty, merge_increasing_lists_rev}
 use Rattle.source.specs.Shared.{Allˡ}
-use Rattle.source.proofs.Lookup.{Allˡ-map, Increasing}
+use Rattle.source.proofs.Lookup.{Allˡ-map}
 use Rattle.source.proofs.Rows.{names_find_first_depth}
 use Rattle.source.proofs.Lookup.{Allˡ-reverse}
 use Rattle.source.specs.Forward.{found}
 use Rattle.memory.specs.Layout.{Which, Item, tree, list, what, key_at}
 use Rattle.memory.specs.Sound.{Used, At}
 use Rattle.find_tree.specs.Tree.{held, AnyTree}
-use Rattle.find_tree.specs.Links.{matches, head0, row_at}
+use Rattle.find_tree.specs.Links.{matches, row_at}
 use Rattle.find_tree.proofs.Branches.{any_tree}
-use Rattle.find_tree.proofs.After.{after_first}
+use Rattle.find_tree.proofs.After.{all_after, after_first, after_next}
 use Rattle.find_tree.proofs.Matches.{MatchOf, matches_of, matches_increasing}
 use Rattle.match_walk.specs.Matched.{Noted, Matched}
-use Rattle.match_marks.specs.declared.Next.{Next}
+use Rattle.match_marks.specs.declared.Notes.{Notes}
 use Rattle.find_list.specs.Names.{AnyList}
 use Rattle.find_list.specs.Entries.{Entry, shown, outer, Asks, by_prefix}
 use Rattle.find_list.specs.Entries.{LabelOk}
 use Rattle.merge.specs.Stream as M
 use Rattle.merge.specs.Stream.{Merge, Step, later, left_in, AnyRest, Starts, Gives, OneTree}
-use Rattle.merge.proofs.Cells.{later_end, later_next}
 use Rattle.merge.proofs.Rest.{rest_any, gives_end, gives_more}
 use Rattle.listing_output.specs.Run.{Tally, Limits, path_in, tally_in, limits_in}
 use Rattle.listing_ask.specs.Ask.{asked}
@@ -71,197 +70,177 @@ label_here {ℓ = ℓ} t o = record { at = at_of t (list ℓ) (omega arith) o.li
 
 -- ---- A tree's branches
 
--- The branch at and those after it, none for 0.
-unfoldable pub onward : (ws txt : List ℕ) (prefix : Str) (root at : ℕ) → List ℕ
-onward ws txt prefix root at = cond (eqb at 0) [] (at ∷ later ws txt prefix root at)
+-- The branch at hand and those after it.
+abbrev pub onward : (ws txt : List ℕ) (prefix : Str) (root : ℕ) → Prelude.Option ℕ → List ℕ
+onward ws txt prefix root None = []
+onward ws txt prefix root (Some at) = at ∷ later ws txt prefix root at
 
 abbrev labelled : ℕ → List ℕ → List Entry
 labelled label xs = map (λ b. record { branch = b; label = label }) xs
 
 module _ {ws txt : List ℕ} {w : Which} {ℓ : Level} {root : ℕ} (t : At ws txt w (tree ℓ) root) (prefix : Str) where
   -- The branch stands among the matches.
-  pub record Standing (at : ℕ) : Type 0 where
-    pub matching : (at ≡ 0 → ⊥) → MatchOf ws txt w ℓ root prefix at
+  pub record Standing (next : Prelude.Option ℕ) : Type 0 where
+    pub matching : (at : ℕ) → next ≡ Some at → MatchOf ws txt w ℓ root prefix at
 
-  first_onward : (at : ℕ) → at ≡ head0 (matches ws txt root prefix)
-      → (onward ws txt prefix root at ≡ matches ws txt root prefix) × Standing at
-  unfolding onward
-  first_onward at e = go (matches ws txt root prefix) refl (matches_of t prefix) (matches_increasing t prefix) e
-    where
-      go : (xs : List ℕ) → matches ws txt root prefix ≡ xs → Allˡ (MatchOf ws txt w ℓ root prefix) xs
-          → Increasing (key_at ws txt) xs → at ≡ head0 xs
-          → (cond (eqb at 0) [] (at ∷ later ws txt prefix root at) ≡ xs) × Standing at
-      go [] q a i e = (rw (eq-eqb at 0 e), record { matching = λ n. absurd (n e) })
-      go (y ∷ xs) q a i e = (
-        rw (e, ne_eqb y 0 (λ z. omega (arith, a.0.branch.some)), q) (ap (◌∷◌ y) (after_first (key_at ws txt) y xs i)),
-        record { matching = λ n. rw e a.0 },
-      )
+  -- The first of a list of matches, where each is followed by those after its key.
+  onward_of : (xs : List ℕ) → Allˡ (MatchOf ws txt w ℓ root prefix) xs
+      → ((y : ℕ) (ys : List ℕ) → xs ≡ y ∷ ys → ys ≡ later ws txt prefix root y) → {next : Prelude.Option ℕ}
+      → next ≡ slice_get xs 0
+      → (onward ws txt prefix root next ≡ xs) × Standing next
+  onward_of [] a f e = rw e (refl, record { matching = λ at h. absurd (none-some at h) })
+  onward_of (y ∷ ys) a f e = rw e (ap (◌∷◌ y) (sym (f y ys refl)), record { matching = λ at h. rw (← same_Some y at h) a.0 })
 
-  next_onward : (at r : ℕ) → (at ≡ 0 → ⊥) → r ≡ head0 (later ws txt prefix root at)
-      → (onward ws txt prefix root at ≡ at ∷ onward ws txt prefix root r) × Standing r
-  unfolding onward
-  next_onward at r n e = go (ℕ_discrete r 0)
-    where
-      go : Dec (r ≡ 0) → (cond (eqb at 0) [] (at ∷ later ws txt prefix root at)
-          ≡ at ∷ cond (eqb r 0) [] (r ∷ later ws txt prefix root r)) × Standing r
-      go (yes z) = (rw (ne_eqb at 0 n, eq-eqb r 0 z, later_end t prefix at (sym e ∙ z)), record { matching = λ m. absurd (m z) })
-      go (no m) = let k = later_next t prefix at r e m in (rw (ne_eqb at 0 n, ne_eqb r 0 m, k.is_next), record { matching = λ m. k.match })
+  first_onward : {next : Prelude.Option ℕ} → next ≡ slice_get (matches ws txt root prefix) 0
+      → (onward ws txt prefix root next ≡ matches ws txt root prefix) × Standing next
+  first_onward = onward_of (matches ws txt root prefix) (matches_of t prefix)
+      (λ y ys q. rw q (sym (after_first (key_at ws txt) y ys (rw q at (matches_increasing t prefix)))))
+
+  next_onward : (at : ℕ) {next : Prelude.Option ℕ} → next ≡ slice_get (later ws txt prefix root at) 0
+      → (onward ws txt prefix root next ≡ later ws txt prefix root at) × Standing next
+  next_onward at = onward_of (later ws txt prefix root at)
+      (all_after (key_at ws txt) (MatchOf ws txt w ℓ root prefix) (key_at ws txt at) (matches ws txt root prefix) (matches_of t prefix))
+      (λ y ys q. after_next (key_at ws txt) (key_at ws txt at) (matches ws txt root prefix) (matches_increasing t prefix) y ys q)
 
 module _ (ws txt : List ℕ) (ask : Ask) (rest : Str) (p : Path) (lim : Limits) (matched : ℤ) (leaf : Bool)
     (root label : ℕ) (prefix : Str) where
-  -- The run over a tree has come to the branch at.
-  pub record Along (a τ : Tally) (flat flat' out out' : List ℕ) (at : ℕ) : Type 0 where
+  -- The run over a tree has come to the branch at hand.
+  pub record Along (a τ : Tally) (flat flat' out out' : List ℕ) (next : Prelude.Option ℕ) : Type 0 where
     pub tree_at : At ws txt (asked ask) (tree (level_of leaf)) root
     pub left : Left ws txt ask rest p lim matched leaf a τ flat flat' out out' (tree_entries ws txt root label prefix)
-        (labelled label (onward ws txt prefix root at))
-    pub standing : Standing tree_at prefix at
+        (labelled label (onward ws txt prefix root next))
+    pub standing : Standing tree_at prefix next
 
 module _ {ws txt : List ℕ} {ask : Ask} {rest : Str} {p : Path} {lim : Limits} {matched : ℤ} {leaf : Bool}
     {root label : ℕ} {prefix : Str} where
-  pub along_first : {a : Tally} {flat out : List ℕ} {at : ℕ} → TreeReady ws txt ask rest p lim leaf root label prefix
-      → at ≡ head0 (matches ws txt root prefix)
-      → Along ws txt ask rest p lim matched leaf root label prefix a a flat flat out out at
+  pub along_first : {a : Tally} {flat out : List ℕ} {next : Prelude.Option ℕ}
+      → TreeReady ws txt ask rest p lim leaf root label prefix
+      → next ≡ slice_get (matches ws txt root prefix) 0
+      → Along ws txt ask rest p lim matched leaf root label prefix a a flat flat out out next
   unfolding tree_entries
-  along_first {at = at} r e =
-      let f = first_onward r.tree_at prefix at e in
+  along_first r e =
+      let f = first_onward r.tree_at prefix e in
       record {
         tree_at = r.tree_at;
         left = rw f.0 (left_all ws txt ask rest p lim matched leaf r.room);
         standing = f.1;
       }
 
+  pub along_done : {a τ : Tally} {flat flat' out out' : List ℕ}
+      → Along ws txt ask rest p lim matched leaf root label prefix a τ flat flat' out out' None
+      → EntriesRun ws txt ask rest p lim matched a τ flat flat' out out' leaf (tree_entries ws txt root label prefix)
+  along_done g = left_none ws txt ask rest p lim matched leaf g.left
+
   module _ {a τ : Tally} {flat flat' out out' : List ℕ} {at : ℕ}
-      (g : Along ws txt ask rest p lim matched leaf root label prefix a τ flat flat' out out' at) where
-    module _ (n : at ≡ 0 → ⊥) where
-      here : MatchOf ws txt (asked ask) (level_of leaf) root prefix at
-      here = g.standing.matching n
+      (g : Along ws txt ask rest p lim matched leaf root label prefix a τ flat flat' out out' (Some at)) where
+    here : MatchOf ws txt (asked ask) (level_of leaf) root prefix at
+    here = g.standing.matching at refl
 
-      pub along_earlier : at ≤ root
-      along_earlier = omega (arith, here.branch.link.earlier)
+    pub along_earlier : at ≤ root
+    along_earlier = omega (arith, here.branch.link.earlier)
 
-      branch_here : BranchAt ws txt (asked ask) (level_of leaf) at
-      branch_here = record { some = here.branch.some; at = at_of g.tree_at (tree (level_of leaf)) (omega arith) here.branch.link }
+    branch_here : BranchAt ws txt (asked ask) (level_of leaf) at
+    branch_here = record { some = here.branch.some; at = at_of g.tree_at (tree (level_of leaf)) (omega arith) here.branch.link }
 
-      split : labelled label (onward ws txt prefix root at)
-          ≡ record { branch = at; label = label } ∷ labelled label (later ws txt prefix root at)
-      unfolding onward
-      split = rw (ne_eqb at 0 n)
+    pub along_branch : TreeReady ws txt ask rest p lim leaf root label prefix
+        → BranchReady ws txt ask rest p lim leaf at label
+    along_branch r = record { ready = r.ready; branch_at = branch_here; label_at = r.label_at; room = λ z. (g.left.room z).0 }
 
-      pub along_branch : TreeReady ws txt ask rest p lim leaf root label prefix
-          → BranchReady ws txt ask rest p lim leaf at label
-      along_branch r = record {
-        ready = r.ready;
-        branch_at = branch_here;
-        label_at = r.label_at;
-        room = λ z. (rw split at (g.left.room z)).0;
-      }
+    pub along_tree : (0 < at) × AnyTree ws txt at
+    along_tree = (here.branch.some, any_tree branch_here.at)
 
-      pub along_tree : (0 < at) × AnyTree ws txt at
-      along_tree = (here.branch.some, any_tree branch_here.at)
+    pub along_begins : starts_with (key_at ws txt at) prefix ≡ true
+    along_begins = here.begins
 
-      pub along_begins : starts_with (key_at ws txt at) prefix ≡ true
-      along_begins = here.begins
+    module _ {τ' : Tally} {flat'' out'' : List ℕ}
+        (b : BranchRuns ws txt ask rest p lim matched τ τ' flat' flat'' out' out'' leaf at label)
+        (lf : length flat'' ≡ length flat') (lo : length out'' ≡ length out') where
+      pub along_spent : lim.budget < τ'.entered
+          → EntriesRun ws txt ask rest p lim matched a τ' flat flat'' out out'' leaf
+          (tree_entries ws txt root label prefix)
+      along_spent s = left_spent ws txt ask rest p lim matched leaf (left_next ws txt ask rest p lim matched leaf g.left b lf lo) s
 
-      module _ {τ' : Tally} {flat'' out'' : List ℕ}
-          (b : BranchRuns ws txt ask rest p lim matched τ τ' flat' flat'' out' out'' leaf at label)
-          (lf : length flat'' ≡ length flat') (lo : length out'' ≡ length out') where
-        pub along_spent : lim.budget < τ'.entered
-            → EntriesRun ws txt ask rest p lim matched a τ' flat flat'' out out'' leaf
-            (tree_entries ws txt root label prefix)
-        along_spent s = left_spent ws txt ask rest p lim matched leaf (left_next ws txt ask rest p lim matched leaf (rw split at g.left) b lf lo) s
+      module _ {next : Prelude.Option ℕ} (e : next ≡ slice_get (later ws txt prefix root at) 0) where
+        pub along_next : Along ws txt ask rest p lim matched leaf root label prefix a τ' flat flat'' out out'' next
+        along_next =
+            let f = next_onward g.tree_at prefix at e in
+            record {
+              tree_at = g.tree_at;
+              left = rw f.0 (left_next ws txt ask rest p lim matched leaf g.left b lf lo);
+              standing = f.1;
+            }
 
-        module _ {r : ℕ} (e : r ≡ head0 (later ws txt prefix root at)) where
-          pub along_next : Along ws txt ask rest p lim matched leaf root label prefix a τ' flat flat'' out out'' r
-          along_next =
-              let f = next_onward g.tree_at prefix at r n e in
-              record {
-                tree_at = g.tree_at;
-                left = left_next ws txt ask rest p lim matched leaf (rw f.0 at g.left) b lf lo;
-                standing = f.1;
-              }
-
-          pub along_less : length (onward ws txt prefix root r) < length (onward ws txt prefix root at)
-          along_less = let f = next_onward g.tree_at prefix at r n e in omega (arith, ap length f.0)
-
-    pub along_done : at ≡ 0
-        → EntriesRun ws txt ask rest p lim matched a τ flat flat' out out' leaf (tree_entries ws txt root label prefix)
-    unfolding onward
-    along_done z = left_none ws txt ask rest p lim matched leaf (rw (eq-eqb at 0 z) at g.left)
+        pub along_less : length (onward ws txt prefix root next) < length (onward ws txt prefix root (Some at))
+        along_less = omega (arith, ap length (next_onward g.tree_at prefix at e).0)
 
 -- The run, with notes of the branches after the one at hand.
-module _ (ws txt : List ℕ) (query : Str) (place : Search) (f : Labelled) (run run' flat flat' out out' notes : List ℕ)
-    (step : Next) where
+module _ (ws txt : List ℕ) (query : Str) (place : Search) (f : Labelled) (run run' flat flat' out out' : List ℕ)
+    (notes : Notes) (next : Prelude.Option ℕ) where
   pub record Stepping : Type 0 where
     pub same : SamePath run run'
     pub along : Along ws txt place.want.ask (drop place.next query) (path_in run) (limits_in run)
         place.want.matched
         place.leaf
-        f.link f.label (take place.len query) (tally_in run) (tally_in run') flat flat' out out' step.link
-    pub noted : (step.link ≡ 0 → ⊥) → Noted ws txt (take place.len query) notes step.n step.link
-        (later ws txt (take place.len query) f.link step.link)
+        f.link f.label (take place.len query) (tally_in run) (tally_in run') flat flat' out out' next
+    pub noted : (at : ℕ) → next ≡ Some at
+        → Noted ws txt (take place.len query) notes at (later ws txt (take place.len query) f.link at)
 
-noted_after : (ws txt : List ℕ) (prefix : Str) (root : ℕ) {notes : List ℕ} {xs : List ℕ} {step : Next}
-    → Matched ws txt prefix notes xs step → onward ws txt prefix root step.link ≡ xs → (step.link ≡ 0 → ⊥)
-    → Noted ws txt prefix notes step.n step.link (later ws txt prefix root step.link)
-unfolding onward
-noted_after ws txt prefix root {step = step} w e n = w.noted step.link (later ws txt prefix root step.link) (sym e ∙ rw (ne_eqb step.link 0 n))
+noted_after : (ws txt : List ℕ) (prefix : Str) (root : ℕ) {notes : Notes} {xs : List ℕ} {next : Prelude.Option ℕ}
+    → Matched ws txt prefix notes xs next → onward ws txt prefix root next ≡ xs → (at : ℕ) → next ≡ Some at
+    → Noted ws txt prefix notes at (later ws txt prefix root at)
+noted_after ws txt prefix root w e at h = w.noted at (later ws txt prefix root at) (sym e ∙ rw h refl)
 
 module _ {ws txt : List ℕ} {query : Str} {place : Search} {f : Labelled} {run : List ℕ} where
-  pub stepping_first : {flat out notes : List ℕ} {step : Next} → TreeAsked ws txt query place run f
-      → Matched ws txt (take place.len query) notes (matches ws txt f.link (take place.len query)) step
-      → Stepping ws txt query place f run run flat flat out out notes step
-  stepping_first {step = step} r w = record {
+  pub stepping_first : {flat out : List ℕ} {notes : Notes} {next : Prelude.Option ℕ}
+      → TreeAsked ws txt query place run f
+      → Matched ws txt (take place.len query) notes (matches ws txt f.link (take place.len query)) next
+      → Stepping ws txt query place f run run flat flat out out notes next
+  stepping_first r w = record {
     same = same_run run;
     along = along_first r.can w.head;
-    noted = noted_after ws txt (take place.len query) f.link w (first_onward r.can.tree_at (take place.len query) step.link w.head).0;
+    noted = noted_after ws txt (take place.len query) f.link w (first_onward r.can.tree_at (take place.len query) w.head).0;
   }
 
-  module _ {run' flat flat' out out' notes : List ℕ} {step : Next}
-      (g : Stepping ws txt query place f run run' flat flat' out out' notes step) where
+  pub stepping_done : {run' flat flat' out out' : List ℕ} {notes : Notes}
+      → Stepping ws txt query place f run run' flat flat' out out' notes None
+      → TreeListed ws txt query place run run' flat flat' out out' f
+  stepping_done g = record { same = g.same; runs = along_done g.along }
+
+  module _ {run' flat flat' out out' : List ℕ} {notes : Notes} {at : ℕ}
+      (g : Stepping ws txt query place f run run' flat flat' out out' notes (Some at)) where
     abbrev pub at_hand : Labelled
-    at_hand = record { link = step.link; label = f.label }
+    at_hand = record { link = at; label = f.label }
 
-    pub stepping_done : step.link ≡ 0 → TreeListed ws txt query place run run' flat flat' out out' f
-    stepping_done z = record { same = g.same; runs = along_done g.along z }
+    pub stepping_branch : TreeAsked ws txt query place run f
+        → BranchAsked ws txt (drop place.next query) place.want place.leaf run' at_hand
+    stepping_branch r = record { can = branch_ready_at g.same (along_branch g.along r.can); told = r.place_ok.told }
 
-    module _ (n : step.link ≡ 0 → ⊥) where
-      pub stepping_branch : TreeAsked ws txt query place run f
-          → BranchAsked ws txt (drop place.next query) place.want place.leaf run' at_hand
-      stepping_branch r = record {
-        can = branch_ready_at g.same (along_branch g.along n r.can);
-        told = r.place_ok.told;
+    pub stepping_noted : Noted ws txt (take place.len query) notes at (later ws txt (take place.len query) f.link at)
+    stepping_noted = g.noted at refl
+
+    module _ {run'' flat'' out'' : List ℕ} {e : ℕ}
+        (b : BranchListed ws txt (drop place.next query) place.want
+        place.leaf run' run'' flat' flat'' out' out'' at_hand e)
+        (lf : length flat'' ≡ length flat') (lo : length out'' ≡ length out') where
+      pub stepping_spent : get_or run 22 0 < e
+          → TreeListed ws txt query place run run'' flat flat'' out out'' f
+      stepping_spent k = record {
+        same = path_then g.same b.same;
+        runs = along_spent g.along (branch_runs_at g.same b.runs) lf lo (omega (arith, b.count));
       }
 
-      module _ {run'' flat'' out'' : List ℕ} {e : ℕ}
-          (b : BranchListed ws txt (drop place.next query) place.want
-          place.leaf run' run'' flat' flat'' out' out'' at_hand e)
-          (lf : length flat'' ≡ length flat') (lo : length out'' ≡ length out') where
-        pub stepping_spent : get_or run 22 0 < e
-            → TreeListed ws txt query place run run'' flat flat'' out out'' f
-        stepping_spent k = record {
+      module _ {notes' : Notes} {next : Prelude.Option ℕ}
+          (w : Matched ws txt (take place.len query) notes' (later ws txt (take place.len query) f.link at) next) where
+        pub stepping_next : Stepping ws txt query place f run run'' flat flat'' out out'' notes' next
+        stepping_next = record {
           same = path_then g.same b.same;
-          runs = along_spent g.along n (branch_runs_at g.same b.runs) lf lo (omega (arith, b.count));
+          along = along_next g.along (branch_runs_at g.same b.runs) lf lo w.head;
+          noted = noted_after ws txt (take place.len query) f.link w (next_onward g.along.tree_at (take place.len query) at w.head).0;
         }
 
-        module _ {notes' : List ℕ} {step' : Next}
-            (w : Matched ws txt (take place.len query) notes'
-            (later ws txt (take place.len query) f.link step.link) step') where
-          pub stepping_next : Stepping ws txt query place f run run'' flat flat'' out out'' notes' step'
-          unfolding onward
-          stepping_next = record {
-            same = path_then g.same b.same;
-            along = along_next g.along n (branch_runs_at g.same b.runs) lf lo w.head;
-            noted = noted_after ws txt (take place.len query) f.link w
-                (let e = (next_onward g.along.tree_at (take place.len query) step.link step'.link n w.head).0 in
-                tail_of (sym (rw (ne_eqb step.link 0 n) at e)));
-          }
-            where
-              tail_of : {x : ℕ} {xs m : List ℕ} → x ∷ xs ≡ x ∷ m → xs ≡ m
-              tail_of e = cc
-
-          pub stepping_less : length (onward ws txt (take place.len query) f.link step'.link)
-              < length (onward ws txt (take place.len query) f.link step.link)
-          stepping_less = along_less g.along n (branch_runs_at g.same b.runs) lf lo w.head
+        pub stepping_less : length (onward ws txt (take place.len query) f.link next)
+            < length (onward ws txt (take place.len query) f.link (Some at))
+        stepping_less = along_less g.along (branch_runs_at g.same b.runs) lf lo w.head
 
 -- ---- A list
 

@@ -8,6 +8,7 @@ ghost use Rattle.listing_trie.specs.Runs.{BranchAsked, BranchListed, TreeAsked, 
 
 use listing_annotation::Labelled;
 use listing_output::Want;
+use match_marks::Notes;
 use merge::Cursor;
 
 // Where a run stands in a trie: what is wanted, whether the list is of bindings, and where the query is cut.
@@ -86,10 +87,9 @@ fn list_tree(
     let len = place.len;
     let rest = place.next;
     let root = found.link;
-    let mut notes = [0; match_marks::NOTES];
-    let mut step = match_walk::first_match(words, text, root, &query[0..len], &mut notes);
-    while 0 < step.link {
-        let at = step.link;
+    let mut notes = Notes::new();
+    let mut next = match_walk::first_match(words, text, root, &query[0..len], &mut notes);
+    while let Some(at) = next {
         let here = Labelled {
             link: at,
             label: found.label,
@@ -98,7 +98,7 @@ fn list_tree(
         if budget < entered {
             return;
         }
-        step = match_walk::next_match(words, text, root, &query[0..len], at, &mut notes, step.n);
+        next = match_walk::next_match(words, text, root, &query[0..len], at, &mut notes);
     }
 }
 

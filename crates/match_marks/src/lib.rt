@@ -1,112 +1,144 @@
-// The array of notes: branches still to come, and marks of those whose notes were dropped.
+// The notes of a walk: branches still to come, and marks of those whose notes were dropped.
 // Where the notes are full they are dropped, and the first of them is marked. Marks are near or far, a far one for as many near ones as there is room for.
 #![tactic(auto)]
 
-ghost use Rattle.std.specs.Prelude.{◌<◌};
-ghost use Rattle.match_marks.specs.Marks.{Fits, PartOk, PutAt, Marks, MarkTaken, NotedAt, LastNote};
+ghost use Rattle.std.specs.Prelude.{◌≡◌, ◌<◌, []};
+ghost use Rattle.match_marks.specs.Marks.{put, put_out, Taken, none, marked, noted, MarkTaken, NoteTaken};
 
-// At most so many notes, near marks and far marks. Of a chain to the left as many branches as their product are given for each walk from the root.
-const MOST_NOTES: usize = 32;
+use std::marker::Model;
 
-const MOST_NEAR: u32 = 14;
-
-const MOST_FAR: u32 = 15;
-
-// Where the near and the far marks begin, and where their numbers stand.
-const NEAR_START: usize = 32;
-
-const FAR_START: usize = 46;
-
-pub const NEAR_COUNT: usize = 61;
-
-pub const FAR_COUNT: usize = 62;
-
-// Where it stands whether notes were ever dropped.
-pub const DROPPED: usize = 63;
-
-// The length of the array of notes and marks.
-pub const NOTES: usize = 64;
-
-// A branch, 0 for none, and how many notes there are beside what is to its right.
-#[derive(Clone, Copy)]
-pub struct Next {
-    pub link: u32,
-    pub n: usize,
+// At most `N` links, the last one on top.
+#[derive(Drop)]
+struct Stack<const N: usize> {
+    links: [u32; N],
+    count: usize,
 }
 
-// Puts a branch after the others of a part. Where the part is full the others are dropped.
-fn put(notes: &mut [u32; NOTES], start: usize, most: u32, count: usize, branch: u32)
-    requires { PartOk notes.old start most count }
-    ensures { PutAt notes.old notes.new start most count branch }
-{
-    let k = notes[count];
-    if k == most {
-        notes[start] = branch;
-        notes[count] = 1;
-        return;
-    }
-    notes[start + k as usize] = branch;
-    notes[count] = k + 1;
+impl<const N: usize> Model for Stack<N> {
+    ghost use Rattle.std.specs.Prelude.{ℕ, List, take, ◌<◌, ◌≤◌};
+
+    ghost Value = { List ℕ };
+
+    ghost view = { λ s. take s.count s.links };
+
+    ghost invariant = { λ s. (0 < N) × (s.count ≤ N) };
 }
 
-// Marks a branch. Where the near marks are full their first becomes a far one, and the others are dropped.
-fn mark(notes: &mut [u32; NOTES], branch: u32)
-    requires { Fits notes.old 0 }
-    ensures { Marks notes.old notes.new branch }
-{
-    if notes[NEAR_COUNT] == MOST_NEAR {
-        let first = notes[NEAR_START];
-        put(notes, FAR_START, MOST_FAR, FAR_COUNT, first);
-        put(notes, NEAR_START, MOST_NEAR, NEAR_COUNT, branch);
-        return;
+impl<const N: usize> Stack<N> {
+    fn new() -> Self
+        requires { 0 < N }
+        ensures { result ≡ [] }
+    {
+        Stack {
+            links: [0; N],
+            count: 0,
+        }
     }
-    put(notes, NEAR_START, MOST_NEAR, NEAR_COUNT, branch);
+
+    fn clear(&mut self)
+        ensures { self.new ≡ [] }
+    {
+        self.count = 0;
+    }
+
+    // Puts a link on top. Where the stack is full the others are dropped, and the first of them is given.
+    fn put(&mut self, link: u32) -> Option<u32>
+        ensures links { self.new ≡ put N self.old link }
+        ensures out { result ≡ put_out N self.old }
+    {
+        let mut out = None;
+        if self.count == N {
+            out = Some(self.links[0]);
+            self.count = 0;
+        }
+        self.links[self.count] = link;
+        self.count += 1;
+        out
+    }
+
+    // Takes the top.
+    fn take(&mut self) -> Option<u32>
+        ensures { Taken self.old self.new result }
+    {
+        if self.count == 0 {
+            return None;
+        }
+        self.count -= 1;
+        Some(self.links[self.count])
+    }
 }
 
-// Takes the last mark, 0 for none.
-pub fn take_mark(notes: &mut [u32; NOTES]) -> u32
-    requires { Fits notes.old 0 }
-    ensures { MarkTaken notes.old notes.new result }
-{
-    let near = notes[NEAR_COUNT];
-    if 0 < near {
-        let last = notes[NEAR_START + (near - 1) as usize];
-        notes[NEAR_COUNT] = near - 1;
-        return last;
-    }
-    let far = notes[FAR_COUNT];
-    if 0 < far {
-        let last = notes[FAR_START + (far - 1) as usize];
-        notes[FAR_COUNT] = far - 1;
-        return last;
-    }
-    0
+// Of a chain to the left as many branches as the product of the three sizes are given for each walk from the root.
+#[derive(Drop)]
+pub struct Notes {
+    branches: Stack<32>,
+    near: Stack<14>,
+    far: Stack<15>,
+    // Whether notes were ever dropped.
+    dropped: bool,
 }
 
-// Notes a branch after the others. Where the notes are full the others are dropped, and the first of them is marked.
-pub fn note(notes: &mut [u32; NOTES], n: usize, branch: u32) -> usize
-    requires { Fits notes.old n }
-    ensures { NotedAt notes.old notes.new n branch result }
-{
-    if n == MOST_NOTES {
-        let first = notes[0];
-        mark(notes, first);
-        notes[DROPPED] = 1;
-        notes[0] = branch;
-        return 1;
+impl Notes {
+    pub fn new() -> Self
+        ensures { result ≡ none }
+    {
+        Notes {
+            branches: Stack::new(),
+            near: Stack::new(),
+            far: Stack::new(),
+            dropped: false,
+        }
     }
-    notes[n] = branch;
-    n + 1
-}
 
-// The last of `n` notes, which comes first.
-pub fn last_note(notes: &[u32; NOTES], n: usize) -> Next
-    requires fits { Fits notes.now n }
-    requires n_nonzero { 0 < n }
-    ensures { LastNote notes.now n result }
-{
-    Next {
-        link: notes[n - 1],
-        n: n - 1,
+    pub fn clear(&mut self)
+        ensures { self.new ≡ none }
+    {
+        self.branches.clear();
+        self.near.clear();
+        self.far.clear();
+        self.dropped = false;
+    }
+
+    // Whether notes were ever dropped: then more may be to come than the notes say.
+    pub fn dropped(&self) -> bool
+        ensures { result ≡ self.now.dropped }
+    {
+        self.dropped
+    }
+
+    // Marks a branch. Where the near marks are full their first becomes a far one, and the others are dropped.
+    fn mark(&mut self, branch: u32)
+        ensures { self.new ≡ marked self.old branch }
+    {
+        if let Some(first) = self.near.put(branch) {
+            self.far.put(first);
+        }
+    }
+
+    // Notes a branch after the others. Where the notes are full the others are dropped, and the first of them is marked.
+    pub fn note(&mut self, branch: u32)
+        ensures { self.new ≡ noted self.old branch }
+    {
+        if let Some(first) = self.branches.put(branch) {
+            self.mark(first);
+            self.dropped = true;
+        }
+    }
+
+    // Takes the last note, the branch that comes first.
+    pub fn take_note(&mut self) -> Option<u32>
+        ensures { NoteTaken self.old self.new result }
+    {
+        self.branches.take()
+    }
+
+    // Takes the last mark, a near one where there is one.
+    pub fn take_mark(&mut self) -> Option<u32>
+        ensures { MarkTaken self.old self.new result }
+    {
+        match self.near.take() {
+            Some(mark) => Some(mark),
+            None => self.far.take(),
+        }
     }
 }

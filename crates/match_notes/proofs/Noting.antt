@@ -1,18 +1,15 @@
 -- Laws of notes, and the matches of a tree by its root.
-use Prim.Native.Nat.{ℕ, zero, suc, ◌+◌, ◌<◌, ◌≤◌}
+use Prim.Native.Nat.{ℕ, ◌<◌, ◌≤◌}
 use mathlib.Core.Path.{◌≡◌, refl, sym, ap, ◌∙◌, subst}
-use mathlib.Core.Bool.{Bool, true, false}
-use mathlib.Core.Logic.{◌⊎◌, inl, inr}
-use mathlib.Core.List.{List, [], ◌∷◌, ◌++◌, append_assoc, append-nil}
+use mathlib.Core.Bool.{Bool, true, false, false≢true}
+use mathlib.Core.Logic.{inl, inr}
+use mathlib.Core.List.{List, [], ◌∷◌, ◌++◌, append_assoc, append-nil, nil≢cons}
 use native.Mathlib.Omega.{arith}
-use native.Mathlib.Numerals.{add-one}
-use lib.ListN.{get_or, set}
-use lib.Seq.{get_or-set_same, get_or-set_other}
 use Rattle.source.specs.Text.{Str, starts_with}
 use Rattle.source.specs.Rules.{◌<ˢ◌}
 use Rattle.source.specs.Shared.{Allˡ}
 use Rattle.source.proofs.Lookup.{Allˡ-map}
-use Rattle.memory.specs.Layout.{record_at, tree, key_at, left_link, right_link}
+use Rattle.memory.specs.Layout.{record_at, key_at, left_link, right_link}
 use Rattle.find_tree.specs.Tree.{AnyTree}
 use Rattle.find_tree.specs.Links.{branches, keep, matches, past}
 use Rattle.find_tree.proofs.Branches.{any_left, any_right}
@@ -20,9 +17,10 @@ use Rattle.find_tree.proofs.Keep.{by_test, keep_append, keep_none, keep_all, all
 use Rattle.find_tree.proofs.Links.{branches_at, all_before, all_beyond}
 use Rattle.find_tree.proofs.Past.{past_after, past_up, past_down, past_of_prefix, past_begun}
 use Rattle.find_tree.proofs.Matches.{matches_none}
-use Rattle.match_marks.specs.Marks.{most_notes, dropped, Fits, Holds, Drops, NotedAt}
+use Rattle.match_marks.specs.Marks.{noted, Holds}
+use Rattle.match_marks.specs.declared.Notes.{Notes}
 use Rattle.match_notes.specs.Noting.{to_come, passing, Ahead, NoteOk, Noting, Descends, AllAfter, NotesLeft}
-use Rattle.match_marks.proofs.Marks.{more_fits, more_holds, drops_fits, drops_told, drops_holds}
+use Rattle.match_marks.proofs.Marks.{noted_holds, noted_is}
 
 all_left : {A : Type 0} (P : A → Type 0) (xs m : List A) → Allˡ P (xs ++ m) → Allˡ P xs
 all_left P [] m a = tt
@@ -102,173 +100,160 @@ module _ {ws txt : List ℕ} {x : ℕ} (a : AnyTree ws txt x) (q : 0 < x) where
 
 -- ---- Notes
 module _ (ws txt : List ℕ) (p : Str) where
-  come_before : (notes : List ℕ) (k x m : ℕ) → m ≤ k → to_come ws txt p (set notes k x) m ≡ to_come ws txt p notes m
+  -- The last note comes first.
+  pub come_first : (notes : List ℕ) (x : ℕ)
+      → to_come ws txt p (notes ++ x ∷ [])
+      ≡ x ∷ (matches ws txt (right_link (record_at ws x)) p ++ to_come ws txt p notes)
   unfolding to_come
-  come_before notes k x zero h = refl
-  come_before notes k x (suc m) h = rw (get_or-set_other notes k m x 0 (λ e. omega arith), come_before notes k x m (omega arith))
+  come_first [] x = ap (◌∷◌ x) (sym (append-nil (matches ws txt (right_link (record_at ws x)) p)))
+  come_first (y ∷ notes) x =
+      let right = matches ws txt (right_link (record_at ws x)) p in
+      rw (come_first notes x)
+      (ap (◌∷◌ x) (append_assoc right (to_come ws txt p notes) (y ∷ matches ws txt (right_link (record_at ws y)) p)))
 
   pub pass_none : (b : Str → Bool) → passing ws txt p b 0 ≡ []
   unfolding keep
   pass_none b = rw (matches_none ws txt p)
 
-module _ {ws txt : List ℕ} {p : Str} {b : Str → Bool} {xs : List ℕ} where
+module _ {ws txt : List ℕ} {p : Str} {b : Str → Bool} {xs : List ℕ} {notes : Notes} where
   -- Notes are none.
-  pub noting_none : {notes h : List ℕ} → Fits notes 0 → Holds (NoteOk ws txt p b xs) (Ahead ws txt p b xs) notes 0
-      → (rest : List ℕ) → xs ≡ h ++ rest → (get_or notes dropped 0 ≡ 0 → rest ≡ []) → Noting ws txt p b notes 0 h xs
+  pub noting_none : {h : List ℕ} → Holds (NoteOk ws txt p b xs) (Ahead ws txt p b xs) notes
+      → notes.branches ≡ [] → (rest : List ℕ) → xs ≡ h ++ rest → (notes.dropped ≡ false → rest ≡ [])
+      → Noting ws txt p b notes h xs
   unfolding to_come
-  noting_none f o rest e w = record { fits = f; holds = o; rest = rest; says = e; whole = w }
+  noting_none o z rest e w = record { holds = o; rest = rest; says = rw z e; whole = w }
 
-  module _ {notes : List ℕ} {n : ℕ} {h : List ℕ} (o : Noting ws txt p b notes n h xs) where
-    -- A note is added.
-    noting_more : (x : ℕ) {g : List ℕ} → h ≡ g ++ (x ∷ matches ws txt (right_link (record_at ws x)) p)
-        → NoteOk ws txt p b xs x → n < most_notes → Noting ws txt p b (set notes n x) (n + 1) g xs
-    unfolding to_come
-    noting_more x {g} e a k =
-        let right = matches ws txt (right_link (record_at ws x)) p in
-        let come = to_come ws txt p notes n in
-        let says : xs ≡ g ++ (x ∷ ((right ++ come) ++ o.rest)) =
-        o.says ∙ ap (λ (y : List ℕ). y ++ (come ++ o.rest)) e ∙ append_assoc g (x ∷ right) (come ++ o.rest)
-        ∙ ap (λ (y : List ℕ). g ++ (x ∷ y)) (sym (append_assoc right come o.rest)) in
-        record {
-          fits = more_fits o.fits x k;
-          holds = more_holds o.fits o.holds x a k;
-          rest = o.rest;
-          says = rw (
-            add-one n,
-            get_or-set_same notes n x 0 (omega (arith, o.fits.sized)),
-            come_before ws txt p notes n x n (omega arith),
-          ) says;
-          whole = λ z. o.whole (sym (get_or-set_other notes n dropped x 0 (λ e. omega arith)) ∙ z);
-        }
-
-    -- All notes are dropped.
-    noting_drops : {notes' : List ℕ} → 0 < n → Drops notes notes' → Noting ws txt p b notes' 0 h xs
-    noting_drops k t =
-        noting_none (drops_fits o.fits t) (drops_holds o.fits t o.holds (o.holds.note 0 k).ahead)
-        (to_come ws txt p notes n ++ o.rest) o.says (λ z. absurd (omega (arith, drops_told o.fits t)))
-
+  module _ {h : List ℕ} (o : Noting ws txt p b notes h xs) where
     -- What is at hand comes first.
     ahead_here : {x : ℕ} → AnyTree ws txt x → h ≡ passing ws txt p b x → Ahead ws txt p b xs x
-    ahead_here a e = record { any = a; rest = to_come ws txt p notes n ++ o.rest; says = o.says ∙ rw e }
+    ahead_here a e = record { any = a; rest = to_come ws txt p notes.branches ++ o.rest; says = o.says ∙ rw e }
 
--- A branch is noted.
-noting_note : {ws txt : List ℕ} {p : Str} {b : Str → Bool} {xs notes notes' : List ℕ} {n x r : ℕ} {h g : List ℕ}
-    → Noting ws txt p b notes n h xs → h ≡ g ++ (x ∷ matches ws txt (right_link (record_at ws x)) p)
-    → NoteOk ws txt p b xs x
-    → NotedAt notes notes' n x r → Noting ws txt p b notes' r g xs
-noting_note {ws} {txt} {p} {b} {xs} {notes} {n = n} {x} {g = g} o e a t = rw (t.is, t.count) (go t.k t.between t.which t.below)
-  where
-    go : (k : ℕ) (m : List ℕ) → ((k ≡ n) × (m ≡ notes)) ⊎ ((k ≡ 0) × (0 < n) × Drops notes m) → k < most_notes
-        → Noting ws txt p b (set m k x) (k + 1) g xs
-    go k m (inl z) i = rw (z.0, z.1) (noting_more o x e a (rw z.0 at i))
-    go k m (inr z) i = rw z.0 (noting_more (noting_drops o z.1 z.2) x e a (omega arith))
+    -- A branch is noted.
+    noting_note : (x : ℕ) {g : List ℕ} → h ≡ g ++ (x ∷ matches ws txt (right_link (record_at ws x)) p)
+        → NoteOk ws txt p b xs x → Noting ws txt p b (noted notes x) g xs
+    unfolding to_come
+    noting_note x {g} e a =
+        let right = matches ws txt (right_link (record_at ws x)) p in
+        let come = to_come ws txt p notes.branches in
+        let holds = noted_holds o.holds (λ y k. k.ahead) a in
+        let says : xs ≡ g ++ (x ∷ (right ++ (come ++ o.rest))) =
+        o.says ∙ ap (λ (y : List ℕ). y ++ (come ++ o.rest)) e ∙ append_assoc g (x ∷ right) (come ++ o.rest) in
+        elim (noted_is notes x) [
+          | inl t ↦ record {
+            holds = holds;
+            rest = o.rest;
+            says = rw (t.0, come_first ws txt p notes.branches x) (says ∙ ap (λ (y : List ℕ). g ++ (x ∷ y)) (sym (append_assoc right come o.rest)));
+            whole = λ z. o.whole (sym t.1 ∙ z);
+          }
+          | inr t ↦ record {
+            holds = holds;
+            rest = come ++ o.rest;
+            says = rw t.0 says;
+            whole = λ z. absurd (false≢true (sym z ∙ t.1));
+          }
+        ]
 
--- Room is kept.
-pub note_fits : {notes notes' : List ℕ} {n x r : ℕ} → Fits notes n → NotedAt notes notes' n x r → Fits notes' r
-note_fits {notes} {n = n} {x} f t = rw (t.is, t.count) (go t.k t.between t.which t.below)
+noted_some : (notes : Notes) (x : ℕ) → (noted notes x).branches ≡ [] → ⊥
+noted_some notes x z = elim (noted_is notes x) [
+  | inl t ↦ append_some notes.branches x (sym t.0 ∙ z)
+  | inr t ↦ nil≢cons (sym z ∙ t.0)
+]
   where
-    go : (k : ℕ) (m : List ℕ) → ((k ≡ n) × (m ≡ notes)) ⊎ ((k ≡ 0) × (0 < n) × Drops notes m) → k < most_notes
-        → Fits (set m k x) (k + 1)
-    go k m (inl z) i = rw (z.0, z.1) (more_fits f x (rw z.0 at i))
-    go k m (inr z) i = rw z.0 (more_fits (drops_fits f z.2) x (omega arith))
+    append_some : (l : List ℕ) (x : ℕ) → l ++ x ∷ [] ≡ [] → ⊥
+    append_some [] x e = nil≢cons (sym e)
+    append_some (y ∷ l) x e = nil≢cons (sym e)
 
 -- ---- descend
 
 -- The matches of the tree from past the bound are those of the tree at before what is noted.
-pub record Descending (ws txt : List ℕ) (p low : Str) (strict : Bool) (from at : ℕ) (notes notes' : List ℕ)
-    (m : ℕ) : Type 0 where
+pub record Descending (ws txt : List ℕ) (p low : Str) (strict : Bool) (from at : ℕ)
+    (notes notes' : Notes) : Type 0 where
   pub bound : starts_with low p ≡ true
   pub any : AnyTree ws txt at
-  pub fits : Fits notes' m
-  pub on : (xs : List ℕ) → Noting ws txt p (past strict low) notes 0 (passing ws txt p (past strict low) from) xs
-      → Noting ws txt p (past strict low) notes' m (passing ws txt p (past strict low) at) xs
-  pub none : m ≡ 0 → passing ws txt p (past strict low) from ≡ passing ws txt p (past strict low) at
+  pub on : (xs : List ℕ) → Noting ws txt p (past strict low) notes (passing ws txt p (past strict low) from) xs
+      → Noting ws txt p (past strict low) notes' (passing ws txt p (past strict low) at) xs
+  pub none : notes'.branches ≡ [] → passing ws txt p (past strict low) from ≡ passing ws txt p (past strict low) at
 
-module _ {ws txt : List ℕ} {p low : Str} {strict : Bool} {from : ℕ} {notes : List ℕ} where
-  pub descending_all : AnyTree ws txt from → starts_with low p ≡ true → Fits notes 0
-      → Descending ws txt p low strict from from notes notes 0
-  descending_all a s f = record { bound = s; any = a; fits = f; on = λ l o. o; none = λ e. refl }
+module _ {ws txt : List ℕ} {p low : Str} {strict : Bool} {from : ℕ} {notes : Notes} where
+  pub descending_all : AnyTree ws txt from → starts_with low p ≡ true
+      → Descending ws txt p low strict from from notes notes
+  descending_all a s = record { bound = s; any = a; on = λ l o. o; none = λ e. refl }
 
-  module _ {at : ℕ} {notes' : List ℕ} {m : ℕ} (d : Descending ws txt p low strict from at notes notes' m) where
-    pub descending_done : at ≤ 0 → Descends ws txt p low strict from notes notes' m
+  module _ {at : ℕ} {notes' : Notes} (d : Descending ws txt p low strict from at notes notes') where
+    pub descending_done : at ≤ 0 → Descends ws txt p low strict from notes notes'
     descending_done h =
         let z : at ≡ 0 = omega arith in
         let e : passing ws txt p (past strict low) at ≡ [] = rw z (pass_none ws txt p (past strict low)) in
-        record { fits = d.fits; notes_on = λ l o. rw e at (d.on l o); none = λ i. d.none i ∙ e }
+        record { notes_on = λ l o. rw e at (d.on l o); none = λ i. d.none i ∙ e }
 
     module _ (q : 0 < at) where
       -- A match is noted, and the way goes left.
-      pub descending_note : {x r : ℕ} {notes'' : List ℕ} → past strict low (key_at ws txt at) ≡ true
-          → starts_with (key_at ws txt at) p ≡ true → NotedAt notes' notes'' m at r → x ≡ left_link (record_at ws at)
-          → Descending ws txt p low strict from x notes notes'' r
-      descending_note e i t f = rw f (record {
+      pub descending_note : {x : ℕ} {notes'' : Notes} → past strict low (key_at ws txt at) ≡ true
+          → starts_with (key_at ws txt at) p ≡ true → notes'' ≡ noted notes' at → x ≡ left_link (record_at ws at)
+          → Descending ws txt p low strict from x notes notes''
+      descending_note e i t f = rw (f, t) (record {
         bound = d.bound;
         any = any_left d.any q;
-        fits = note_fits d.fits t;
-        on = λ l o. noting_note (d.on l o) (pass_here d.any q p strict low e i)
-            (record { some = q; begins = i; ahead = ahead_here (d.on l o) d.any refl }) t;
-        none = λ z. absurd (omega (arith, t.count));
+        on = λ l o. noting_note (d.on l o) at (pass_here d.any q p strict low e i)
+            (record { some = q; begins = i; ahead = ahead_here (d.on l o) d.any refl });
+        none = λ z. absurd (noted_some notes' at z);
       })
 
-      pub descending_left : {x : ℕ} → past strict low (key_at ws txt at) ≡ true
-          → starts_with (key_at ws txt at) p ≡ false → x ≡ left_link (record_at ws at)
-          → Descending ws txt p low strict from x notes notes' m
-      descending_left e i f =
+      pub descending_left : {x : ℕ} {notes'' : Notes} → past strict low (key_at ws txt at) ≡ true
+          → starts_with (key_at ws txt at) p ≡ false → notes'' ≡ notes' → x ≡ left_link (record_at ws at)
+          → Descending ws txt p low strict from x notes notes''
+      descending_left e i t f =
           let s = pass_left d.any q p strict low d.bound e i in
-          rw f (record { bound = d.bound; any = any_left d.any q; fits = d.fits; on = λ l o. rw s at (d.on l o); none = λ z. d.none z ∙ s })
+          rw (f, t) (record { bound = d.bound; any = any_left d.any q; on = λ l o. rw s at (d.on l o); none = λ z. d.none z ∙ s })
 
       pub descending_right : {x : ℕ} → past strict low (key_at ws txt at) ≡ false → x ≡ right_link (record_at ws at)
-          → Descending ws txt p low strict from x notes notes' m
+          → Descending ws txt p low strict from x notes notes'
       descending_right e f =
           let s = pass_right d.any q p strict low e in
-          rw f (record { bound = d.bound; any = any_right d.any q; fits = d.fits; on = λ l o. rw s at (d.on l o); none = λ z. d.none z ∙ s })
+          rw f (record { bound = d.bound; any = any_right d.any q; on = λ l o. rw s at (d.on l o); none = λ z. d.none z ∙ s })
 
 -- ---- note_left
 
 -- The matches of the tree from are those of the tree at before what is noted.
-pub record Lefting (ws txt : List ℕ) (p : Str) (from at : ℕ) (notes notes' : List ℕ) (n m : ℕ) : Type 0 where
+pub record Lefting (ws txt : List ℕ) (p : Str) (from at : ℕ) (notes notes' : Notes) : Type 0 where
   pub any : AnyTree ws txt at
   pub later : AllAfter ws txt p at
-  pub fits : Fits notes' m
   pub on : (b : Str → Bool) (xs : List ℕ) → Allˡ (λ x. b (key_at ws txt x) ≡ true) (branches ws from)
-      → Noting ws txt p b notes n (matches ws txt from p) xs
-      → Allˡ (λ x. b (key_at ws txt x) ≡ true) (branches ws at) × Noting ws txt p b notes' m (matches ws txt at p) xs
+      → Noting ws txt p b notes (matches ws txt from p) xs
+      → Allˡ (λ x. b (key_at ws txt x) ≡ true) (branches ws at) × Noting ws txt p b notes' (matches ws txt at p) xs
 
-module _ {ws txt : List ℕ} {p : Str} {from : ℕ} {notes : List ℕ} {n : ℕ} where
-  pub lefting_all : AnyTree ws txt from → AllAfter ws txt p from → Fits notes n
-      → Lefting ws txt p from from notes notes n n
-  lefting_all a s f = record { any = a; later = s; fits = f; on = λ b l h o. (h, o) }
+module _ {ws txt : List ℕ} {p : Str} {from : ℕ} {notes : Notes} where
+  pub lefting_all : AnyTree ws txt from → AllAfter ws txt p from → Lefting ws txt p from from notes notes
+  lefting_all a s = record { any = a; later = s; on = λ b l h o. (h, o) }
 
-  module _ {at : ℕ} {notes' : List ℕ} {m : ℕ} (d : Lefting ws txt p from at notes notes' n m) where
-    pub lefting_done : at ≤ 0 → NotesLeft ws txt p from notes notes' n m
+  module _ {at : ℕ} {notes' : Notes} (d : Lefting ws txt p from at notes notes') where
+    pub lefting_done : at ≤ 0 → NotesLeft ws txt p from notes notes'
     lefting_done h =
         let z : at ≡ 0 = omega arith in
         let e : matches ws txt at p ≡ [] = rw z (matches_none ws txt p) in
-        record { fits = d.fits; notes_on = λ b l a o. rw e at (d.on b l a o).1 }
+        record { notes_on = λ b l a o. rw e at (d.on b l a o).1 }
 
     module _ (q : 0 < at) where
-      pub lefting_note : {x r : ℕ} {notes'' : List ℕ} → starts_with (key_at ws txt at) p ≡ true
-          → NotedAt notes' notes'' m at r → x ≡ left_link (record_at ws at) → Lefting ws txt p from x notes notes'' n r
-      lefting_note i t f = rw f (record {
+      pub lefting_note : {x : ℕ} {notes'' : Notes} → starts_with (key_at ws txt at) p ≡ true
+          → notes'' ≡ noted notes' at → x ≡ left_link (record_at ws at) → Lefting ws txt p from x notes notes''
+      lefting_note i t f = rw (f, t) (record {
         any = any_left d.any q;
         later = all_of_left d.any q (λ y. p <ˢ key_at ws txt y) d.later;
-        fits = note_fits d.fits t;
         on = λ b l a o.
             let k = d.on b l a o in
             let e : passing ws txt p b at ≡ matches ws txt at p =
             keep_all (key_at ws txt) b (matches ws txt at p) (all_matches ws txt p at (λ y. b (key_at ws txt y) ≡ true) k.0) in (
               all_of_left d.any q (λ y. b (key_at ws txt y) ≡ true) k.0,
-              noting_note k.1 (match_here d.any q p i) (record { some = q; begins = i; ahead = ahead_here k.1 d.any (sym e) }) t,
+              noting_note k.1 at (match_here d.any q p i) (record { some = q; begins = i; ahead = ahead_here k.1 d.any (sym e) }),
             );
       })
 
-      pub lefting_left : {x : ℕ} → starts_with (key_at ws txt at) p ≡ false → x ≡ left_link (record_at ws at)
-          → Lefting ws txt p from x notes notes' n m
-      lefting_left i f =
+      pub lefting_left : {x : ℕ} {notes'' : Notes} → starts_with (key_at ws txt at) p ≡ false → notes'' ≡ notes'
+          → x ≡ left_link (record_at ws at) → Lefting ws txt p from x notes notes''
+      lefting_left i t f =
           let e = match_left d.any q p (past_after false p (key_at ws txt at) (all_here d.any q (λ y. p <ˢ key_at ws txt y) d.later)) i in
-          rw f (record {
+          rw (f, t) (record {
             any = any_left d.any q;
             later = all_of_left d.any q (λ y. p <ˢ key_at ws txt y) d.later;
-            fits = d.fits;
             on = λ b l a o. let k = d.on b l a o in (all_of_left d.any q (λ y. b (key_at ws txt y) ≡ true) k.0, rw e at k.1);
           })

@@ -7,7 +7,8 @@ use Rattle.listing_line.proofs.Run.{same_run}
 use Rattle.listing_step.proofs.Cuts.{front_is}
 use Rattle.listing_trie.proofs.Branch.{leaf_runs, line_ready, branch_named, space_at, below_ready, child_earlier, namespace_ready, namespace_sized}
 use Rattle.listing_trie.proofs.Branch.{namespace_runs}
-use Rattle.listing_trie.proofs.Listed.{none_runs, along_earlier, along_tree, along_begins, stepping_first, stepping_branch, stepping_next, stepping_less}
+use Rattle.listing_trie.proofs.Listed.{none_runs, along_earlier, along_tree, along_begins, stepping_first, stepping_branch, stepping_noted, stepping_next}
+use Rattle.listing_trie.proofs.Listed.{stepping_less}
 use Rattle.listing_trie.proofs.Listed.{stepping_spent, stepping_done, list_any, one_earlier, one_ready, one_runs}
 use Rattle.listing_trie.proofs.Listed.{merging_first, merging_any, merging_done, merging_earlier, merging_less, merging_branch, merging_next, merging_spent}
 use Rattle.listing_trie.proofs.Trie.{trie_spent, trie_named, cut_ready, bindings_earlier, namespaces_earlier, bindings_asked, namespaces_asked, trie_all}
@@ -56,43 +57,41 @@ list_branch-returns t c = rw c.if-place.false c.list_below.ensures
 
 -- ---- list_tree
 
-pub list_tree-first_match-step-requires : goal.list_tree-first_match-step-requires
-list_tree-first_match-step-requires t c = record { any_tree = any_tree c.requires.can.tree_at; notes_len = refl }
-
-pub list_tree-loop-step-init : goal.list_tree-loop-step-init
-list_tree-loop-step-init t c = stepping_first c.requires (rw front_is at c.first_match-step.ensures)
+pub list_tree-loop-next-init : goal.list_tree-loop-next-init
+list_tree-loop-next-init t c = stepping_first c.requires (rw front_is at c.first_match-next.ensures)
 
 pub list_tree-list_branch-entered-requires : goal.list_tree-list_branch-entered-requires
-list_tree-list_branch-entered-requires t c = (
-  omega (arith, along_earlier c.loop-step.invariant.along (λ z. omega (arith, c.loop-step-test.true))),
-  rw tail_is (stepping_branch c.loop-step.invariant (λ z. omega (arith, c.loop-step-test.true)) c.requires),
-)
+list_tree-list_branch-entered-requires t c =
+    let inv = rw c.in-Some.is at c.loop-next.invariant in
+    (omega (arith, along_earlier inv.along), rw tail_is (stepping_branch inv c.requires))
 
 pub list_tree-returns-then-budget-entered : goal.list_tree-returns-then-budget-entered
 list_tree-returns-then-budget-entered t c =
-    stepping_spent c.loop-step.invariant (λ z. omega (arith, c.loop-step-test.true)) (rw tail_is at c.list_branch-entered.ensures)
+    stepping_spent (rw c.in-Some.is at c.loop-next.invariant) (rw tail_is at c.list_branch-entered.ensures)
     (search rules) (search rules) c.if-budget-entered.true
 
-pub list_tree-next_match-step-requires : goal.list_tree-next_match-step-requires
-list_tree-next_match-step-requires t c = record {
-  any_tree = any_tree c.requires.can.tree_at;
-  at_nonzero = along_tree c.loop-step.invariant.along (λ z. omega (arith, c.loop-step-test.true));
-  prefix_value = rw front_is (along_begins c.loop-step.invariant.along (λ z. omega (arith, c.loop-step-test.true)));
-  noted = rw front_is (c.loop-step.invariant.noted (λ z. omega (arith, c.loop-step-test.true)));
-}
+pub list_tree-next_match-next-requires : goal.list_tree-next_match-next-requires
+list_tree-next_match-next-requires t c =
+    let inv = rw c.in-Some.is at c.loop-next.invariant in
+    record {
+      any_tree = any_tree c.requires.can.tree_at;
+      at_nonzero = along_tree inv.along;
+      prefix_value = rw front_is (along_begins inv.along);
+      noted = rw front_is (stepping_noted inv);
+    }
 
-pub list_tree-loop-step-smaller : goal.list_tree-loop-step-smaller
-list_tree-loop-step-smaller t c =
-    stepping_less c.loop-step.invariant (λ z. omega (arith, c.loop-step-test.true)) (rw tail_is at c.list_branch-entered.ensures)
-    (search rules) (search rules) (rw front_is at c.next_match-step.ensures)
+pub list_tree-loop-next-smaller : goal.list_tree-loop-next-smaller
+list_tree-loop-next-smaller t c =
+    rw c.in-Some.is (stepping_less (rw c.in-Some.is at c.loop-next.invariant) (rw tail_is at c.list_branch-entered.ensures)
+    (search rules) (search rules) (rw front_is at c.next_match-next.ensures))
 
-pub list_tree-loop-step-preserved : goal.list_tree-loop-step-preserved
-list_tree-loop-step-preserved t c =
-    stepping_next c.loop-step.invariant (λ z. omega (arith, c.loop-step-test.true)) (rw tail_is at c.list_branch-entered.ensures)
-    (search rules) (search rules) (rw front_is at c.next_match-step.ensures)
+pub list_tree-loop-next-preserved : goal.list_tree-loop-next-preserved
+list_tree-loop-next-preserved t c =
+    stepping_next (rw c.in-Some.is at c.loop-next.invariant) (rw tail_is at c.list_branch-entered.ensures)
+    (search rules) (search rules) (rw front_is at c.next_match-next.ensures)
 
 pub list_tree-returns : goal.list_tree-returns
-list_tree-returns t c = stepping_done c.loop-step.invariant (omega (arith, c.loop-step-test.false))
+list_tree-returns t c = stepping_done (rw c.in_default.is at c.loop-next.invariant)
 
 -- ---- list_merged
 

@@ -38,10 +38,10 @@ decreases-list_merged-loop-place l =
     left_in l.words l.text (take l.place.len l.query)
     (state l.roots l.heads l.beginnings l.labels l.child l.next l.turn.n l.turn.root l.turn.last)
 
-abbrev pub invariant-list_tree-loop-step : goal.invariant-list_tree-loop-step
-invariant-list_tree-loop-step l =
-    Stepping l.words l.text l.query l.place l.found l.fn.run l.run l.fn.flat l.flat l.fn.out l.out l.notes l.step
+abbrev pub invariant-list_tree-loop-next : goal.invariant-list_tree-loop-next
+invariant-list_tree-loop-next l =
+    Stepping l.words l.text l.query l.place l.found l.fn.run l.run l.fn.flat l.flat l.fn.out l.out l.notes l.next
 
-abbrev pub decreases-list_tree-loop-step : goal.decreases-list_tree-loop-step
-decreases-list_tree-loop-step l =
-    length (onward l.words l.text (take l.place.len l.query) l.found.link l.step.link)
+abbrev pub decreases-list_tree-loop-next : goal.decreases-list_tree-loop-next
+decreases-list_tree-loop-next l =
+    length (onward l.words l.text (take l.place.len l.query) l.found.link l.next)

@@ -4,7 +4,7 @@ use Rattle.match_notes.proofs.descend.Given as goal
 
 abbrev pub invariant-loop-at : goal.invariant-loop-at
 invariant-loop-at l =
-    Descending l.words l.text l.prefix l.low l.strict l.from l.at l.initial.notes l.notes l.n
+    Descending l.words l.text l.prefix l.low l.strict l.from l.at l.initial.notes l.notes
 
 abbrev pub decreases-loop-at : goal.decreases-loop-at
 decreases-loop-at l =

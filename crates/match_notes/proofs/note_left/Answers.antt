@@ -1,46 +1,23 @@
 -- `note_left` notes the matches of a tree that is all after the prefix: the tree at hand and the notes say the whole.
 use mathlib.Core.Path.{sym, ◌∙◌}
 use native.Mathlib.Omega.{arith}
-use Rattle.find_tree.proofs.Branches.{tree_fits, sides_earlier}
-use Rattle.match_notes.proofs.Noting.{lefting_all, lefting_note, lefting_left, lefting_done}
+use Rattle.find_tree.proofs.Branches.{sides_earlier}
+use Rattle.match_notes.proofs.Noting.{lefting_note, lefting_left, lefting_done}
 use Rattle.match_notes.proofs.note_left.Goals as goal
-
-pub loop-at-init : goal.loop-at-init
-loop-at-init c =
-    let pre = c.requires in lefting_all pre.any_tree pre.all_after pre.fits
-
-pub key_begins-requires : goal.key_begins-requires
-key_begins-requires c =
-    (c.loop-at-test.true, c.loop-at.invariant.any)
-
-pub note-n-requires : goal.note-n-requires
-note-n-requires c =
-    c.loop-at.invariant.fits
-
-pub left_of-at-requires : goal.left_of-at-requires
-left_of-at-requires c =
-    omega (arith, tree_fits c.loop-at.invariant.any, c.loop-at-test.true)
-
-pub loop-at-smaller-then-key_begins : goal.loop-at-smaller-then-key_begins
-loop-at-smaller-then-key_begins c =
-    omega (arith, c.left_of-at.ensures, sides_earlier c.loop-at.invariant.any c.loop-at-test.true)
-
-pub loop-at-preserved-then-key_begins : goal.loop-at-preserved-then-key_begins
-loop-at-preserved-then-key_begins c =
-    lefting_note c.loop-at.invariant c.loop-at-test.true (sym c.key_begins.ensures ∙ c.if-key_begins.true)
-    c.note-n.ensures c.left_of-at.ensures
-
-pub left_of-at-requires-else-key_begins : goal.left_of-at-requires-else-key_begins
-left_of-at-requires-else-key_begins c =
-    omega (arith, tree_fits c.loop-at.invariant.any, c.loop-at-test.true)
+use Rattle.match_notes.proofs.note_left.Goals.{then-key_begins, else-key_begins}
 
 pub loop-at-smaller : goal.loop-at-smaller
 loop-at-smaller c =
-    omega (arith, c.left_of-at-else-key_begins.ensures, sides_earlier c.loop-at.invariant.any c.loop-at-test.true)
+    omega (arith, c.left_of-at.ensures, sides_earlier c.loop-at.invariant.any c.loop-at-test.true)
 
 pub loop-at-preserved : goal.loop-at-preserved
 loop-at-preserved c =
-    lefting_left c.loop-at.invariant c.loop-at-test.true (sym c.key_begins.ensures ∙ c.if-key_begins.false) c.left_of-at-else-key_begins.ensures
+    elim c.if-key_begins.branch [
+      | then-key_begins w ↦ lefting_note c.loop-at.invariant c.loop-at-test.true
+          (sym c.key_begins.ensures ∙ w.if-key_begins.true) (w.notes-is ∙ w.note.ensures) c.left_of-at.ensures
+      | else-key_begins w ↦ lefting_left c.loop-at.invariant c.loop-at-test.true
+          (sym c.key_begins.ensures ∙ w.if-key_begins.false) w.notes-is c.left_of-at.ensures
+    ]
 
 pub returns : goal.returns
 returns c =
