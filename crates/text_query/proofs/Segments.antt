@@ -1,13 +1,13 @@
 -- Laws of segments and ends-in-dot by before-dot: a query taken segment by segment, also from a position on.
-use Prim.Native.Nat.{ℕ, suc, ◌+◌, ◌-◌, ◌≤◌, ◌<◌}
+use Prim.Native.Nat.{ℕ, suc, ◌+◌, ◌-◌, ◌≤◌, ◌<◌, min}
 use mathlib.Core.Path.{◌≡◌, refl, sym, ap, ◌∙◌}
 use mathlib.Core.Bool.{Bool, true, false, cond}
 use mathlib.Core.List.{[], ◌∷◌}
 use native.Mathlib.Omega.{arith}
 use lib.Dec.{eqb, ltb}
-use borrow.Author.Tests.{eq-eqb, ne_eqb, ltb-false}
+use borrow.Author.Tests.{eq-eqb, ne_eqb, ltb-true, ltb-false}
 use lib.ListN.{length, get_or, take, drop, length-drop, drop_of_length-le}
-use lib.Seq.{drop-drop}
+use lib.Seq.{drop-drop, take_all}
 use Rattle.std.specs.Prelude.{Option, None, Some}
 use Rattle.std.specs.Option.{unwrap_or}
 use Rattle.std.specs.List.{position_or_len}
@@ -139,7 +139,7 @@ pub before_is : (s : Str) → before_dot s ≡ position_or_len (λ b. eqb b dot)
 unfolding before_dot
 before_is s = is_position_or_len before_dot (λ b. eqb b dot) refl (λ b t. ap (λ (n : ℕ). cond (eqb b dot) 0 n) (omega arith)) s
 
-before_within : (s : Str) → before_dot s ≤ length s
+pub before_within : (s : Str) → before_dot s ≤ length s
 before_within s = rw before_is (prefix_len-le-length _ s)
 
 pub or_length : (s : Str) (r : ℕ) (o : Option ℕ)
@@ -151,3 +151,21 @@ or_length s r o e f = go (ltb (before_dot s) (length s)) refl (rw (← before_is
         → r ≡ before_dot s
     go true t k = rw k at f
     go false t k = omega (arith, rw k at f, before_within s, ltb-false _ _ t)
+
+-- ---- The segments one after another
+
+pub segments_none : (s : Str) → length s ≡ 0 → segments s ≡ []
+segments_none s e = segments_end s 0 (omega arith)
+
+-- The first segment is cut off, with its dot if it has one.
+pub segments_cut : (s : Str) (n m : ℕ) → n ≡ before_dot s → m ≡ min (length s) (n + 1) → 0 < length s
+    → segments s ≡ take n s ∷ segments (take (length s - m) (drop m s))
+segments_cut s n m e f h = rw tail_is (by_end (ltb n (length s)) refl)
+  where
+    by_end : (test : Bool) → ltb n (length s) ≡ test → segments s ≡ take n s ∷ segments (drop m s)
+    by_end true t =
+        let k : m ≡ suc (before_dot s) = omega (arith, ltb-true _ _ t) in
+        rw (e, k) (first_segment s (omega (arith, ltb-true _ _ t))).splits
+    by_end false t =
+        let k : n ≡ length s = omega (arith, ltb-false _ _ t, before_within s) in
+        rw (k, take_all (length s) s (omega arith), segments_end s m (omega arith)) (no_dot s h (omega arith))

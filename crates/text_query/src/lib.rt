@@ -2,7 +2,8 @@
 #![tactic(auto)]
 
 ghost use Rattle.std.specs.Prelude.{◌≡◌};
-ghost use Rattle.source.specs.Text.{name_byte};
+ghost use Rattle.std.specs.Iterator.{YieldsFirstRef, item_count};
+ghost use Rattle.source.specs.Text.{name_byte, segments};
 ghost use Rattle.source.specs.Rules.{all};
 ghost use Rattle.text_query.specs.Queries.{byte_rule, before_dot, Surveyed};
 
@@ -63,6 +64,38 @@ pub fn segment_length(s: &[u8]) -> usize
     ensures { result ≡ before_dot s.now }
 {
     s.iter().position(|b| *b == DOT).unwrap_or(s.len())
+}
+
+// The segments of a query, outermost first. A last segment without its dot is one too.
+#[derive(Clone, Copy)]
+pub struct QuerySegments<'a> {
+    // What is left of the query.
+    pub rest: &'a [u8],
+}
+
+// The segments of `query`, one after another.
+pub fn segments_of<'a>(query: &'a [u8]) -> QuerySegments<'a>
+    ensures { result.rest.now ≡ query.now }
+{
+    QuerySegments { rest: query }
+}
+
+impl<'a> Iterator for QuerySegments<'a> {
+    type Item = &'a [u8];
+
+    ghost next_gives = { YieldsFirstRef (λ s. segments s.rest.now) };
+
+    ghost remaining = { item_count (λ s. segments s.rest.now) };
+
+    fn next(&mut self) -> Option<&'a [u8]> {
+        let rest = self.rest;
+        if rest.is_empty() {
+            return None;
+        }
+        let n = segment_length(rest);
+        self.rest = &rest[rest.len().min(n + 1)..];
+        Some(&rest[..n])
+    }
 }
 
 // Of a query: whether it is malformed, has an empty segment, is too long, and how many segments it has.
