@@ -5,7 +5,7 @@ use mathlib.Core.Bool.{true}
 use mathlib.Core.List.{List, [], ◌∷◌}
 use mathlib.Core.Option.{Option, none, some}
 use native.Mathlib.Omega.{arith}
-use lib.ListN.{length, take, drop, length-drop}
+use lib.ListN.{length, take, drop}
 use Rattle.source.specs.Text.{Str, Query, segments, ends_in_dot}
 use Rattle.source.specs.Types.{Trie, bind, namespaces, bindings, trie_empty}
 use Rattle.source.specs.Tries.{dflt, bind_option, names_find_exact, trie_find_exact, scope_of, included}
@@ -67,6 +67,36 @@ pub scope_next : {ws txt : List ℕ} {w : Which} {link at n next : ℕ} {p : M.T
     → Reads ws txt w link next (scope_of (namespaces (what w ws txt link trieˢ)) (take n (drop at query)))
 scope_next {w = w} {at = at} {n} {query = query} t y q h = scope_up t q _ (rw (part_is query at n) at (h w (namespaces_at t q)))
 
+-- The walk has come to the trie of link, with the segments of rest before it, of which C holds.
+pub record Walked (ws txt : List ℕ) (w : Which) (root link : ℕ) (rest : Query)
+    (C : Trie (Item w) → Query → Type 0) : Type 0 where
+  pub earlier : link ≤ root
+  pub here : At ws txt w trieˢ link
+  pub says : C (what w ws txt link trieˢ) rest
+
+pub walked_first : {ws txt : List ℕ} {w : Which} {root : ℕ} {rest : Query} (C : Trie (Item w) → Query → Type 0)
+    → At ws txt w trieˢ root → C (what w ws txt root trieˢ) rest → Walked ws txt w root root rest C
+walked_first C t c = record { earlier = omega arith; here = t; says = c }
+
+module _ {ws txt : List ℕ} {w : Which} {root link : ℕ} {rest left : Query} {s : Str}
+    {C : Trie (Item w) → Query → Type 0} (g : Walked ws txt w root link rest C) where
+  -- One segment down.
+  pub walked_next : {next : ℕ} → rest ≡ s ∷ left
+      → Reads ws txt w link next (scope_of (namespaces (what w ws txt link trieˢ)) s)
+      → (C (what w ws txt link trieˢ) (s ∷ left) → C (scope_of (namespaces (what w ws txt link trieˢ)) s) left)
+      → Walked ws txt w root next left C
+  walked_next e r f = record {
+    earlier = omega (arith, r.link.earlier, g.earlier);
+    here = at_of g.here trieˢ (omega arith) r.link;
+    says = rw r.says (f (rw e at g.says));
+  }
+
+-- The scope of a segment.
+pub scope_below : {ws txt : List ℕ} {w : Which} {link next : ℕ} {p : M.Trie} (s : Str) → At ws txt w trieˢ link
+    → ReadTrie ws link p → Scope ws txt p.namespaces s next
+    → Reads ws txt w link next (scope_of (namespaces (what w ws txt link trieˢ)) s)
+scope_below {w = w} s t q h = scope_up t q s (h w (namespaces_at t q))
+
 -- ---- the included trie
 
 -- What is left of a descent: the host of the segments left.
@@ -80,10 +110,10 @@ pub descends_next : {A : Type 0} {tr at : Trie A} {q rest : Query} {s : Str} →
     → Descends tr q (scope_of (namespaces at) s) rest
 descends_next d = record { host = d.host ∙ host_of_step _ _ _ }
 
-pub descend_found : {ws txt : List ℕ} {w : Which} {query : Str} {root link at : ℕ} {tr : Trie (Item w)} {q : Query}
-    → Stands ws txt w query root link at (Descends tr q) → length query ≤ at → Reads ws txt w root link (included tr q)
+pub descended : {ws txt : List ℕ} {w : Which} {root link : ℕ} {rest : Query} {tr : Trie (Item w)} {q : Query}
+    → Walked ws txt w root link rest (Descends tr q) → rest ≡ [] → Reads ws txt w root link (included tr q)
 unfolding host_of
-descend_found g h = record { link = record { earlier = omega (arith, g.earlier); of_kind = g.here.link.of_kind }; says = sym (stands_last g h).host }
+descended g e = record { link = record { earlier = omega (arith, g.earlier); of_kind = g.here.link.of_kind }; says = sym (rw e at g.says).host }
 
 -- ---- look-up
 
@@ -116,36 +146,24 @@ module _ {A : Type 0} where
 pub some_left : (s : Str) → ends_in_dot s ≡ true → 0 < length s → 0 < length (segments s)
 some_left s e h = rw (first_segment s (before_inside s e h)).splits (omega arith)
 
-module _ {ws txt : List ℕ} {w : Which} {query : Str} {root link at : ℕ} {q : Query}
-    (g : Stands ws txt w query root link at (Finds (what w ws txt root trieˢ) q)) where
-  pub finds_next : {n : ℕ} → Segment query at n → (at + n + 1 ≡ length query → ⊥)
-      → Finds (what w ws txt root trieˢ) q (what w ws txt link trieˢ)
-      (take n (drop at query) ∷ segments (drop (at + n + 1) query))
-      → Finds (what w ws txt root trieˢ) q (scope_of (namespaces (what w ws txt link trieˢ)) (take n (drop at query)))
-      (segments (drop (at + n + 1) query))
-  finds_next {n} s h e =
-      record {
-        same = e.same ∙ find_step _ _ _
-            (some_left _ (s.ends ∙ g.ends) (omega (arith, length-drop (at + n + 1) query, s.inside)));
-      }
-
+module _ {ws txt : List ℕ} {w : Which} {root link : ℕ} {rest q : Query}
+    (g : Walked ws txt w root link rest (Finds (what w ws txt root trieˢ) q)) where
   -- At the last segment: a holder in the bindings.
-  pub found_last : {n r : ℕ} {p : M.Trie} → Segment query at n → ReadTrie ws link p → at + n + 1 ≡ length query
-      → Holder ws txt p.bindings (take (at + n - at) (drop at query)) r → FindsExactIn ws txt w root q r
+  pub found_last : {r : ℕ} {s : Str} {p : M.Trie} → rest ≡ s ∷ [] → ReadTrie ws link p
+      → Holder ws txt p.bindings s r → FindsExactIn ws txt w root q r
   unfolding trie_find_exact
-  found_last {n} y z e h =
+  found_last e z h =
       let i = h w bind (bindings_at g.here z) in
       record {
         link = link_later (omega (arith, (lists_seen g.here z).bindings.earlier, g.earlier)) i.link;
-        says = g.says.same ∙ rw (
-          y.splits,
-          segments_end query (at + n + 1) (omega arith),
-          ← bindings_read g.here z,
-          ← part_is query at n,
-        ) i.says;
+        says = g.says.same ∙ rw (e, ← bindings_read g.here z) i.says;
       }
 
   -- No segment: none.
-  pub found_none : length query ≤ at → FindsExactIn ws txt w root q 0
+  pub found_none : rest ≡ [] → FindsExactIn ws txt w root q 0
   unfolding trie_find_exact
-  found_none h = record { link = no_link root _; says = (stands_last g h).same }
+  found_none e = record { link = no_link root _; says = (rw e at g.says).same }
+
+pub finds_next : {A : Type 0} {tr at : Trie A} {q rest : Query} {s : Str} → 0 < length rest → Finds tr q at (s ∷ rest)
+    → Finds tr q (scope_of (namespaces at) s) rest
+finds_next h e = record { same = e.same ∙ find_step _ _ _ h }

@@ -6,7 +6,7 @@ use native.Mathlib.Omega.{arith}
 use lib.ListN.{length}
 use borrow.Author.Tests.{ne_eqb}
 use Rattle.source.specs.Text.{Str}
-use Rattle.source.specs.Types.{bind, ns, bindings, namespaces, trie_empty}
+use Rattle.source.specs.Types.{bind, ns, namespaces, trie_empty}
 use Rattle.source.specs.Tries.{dflt, scope_of}
 use Rattle.memory.specs.Layout.{record_at, Which, tree, list, trieˢ, kind, what, trie_link}
 use Rattle.memory.specs.Stored.{trie_in}

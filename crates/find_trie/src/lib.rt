@@ -35,12 +35,9 @@ pub fn trie_descend(words: &[u32], text: &[u8], root: u32, query: &[u8]) -> u32
     ensures { Included words.now text.now root (segments query.now) result }
 {
     let mut included = root;
-    let mut at = 0;
-    while at < query.len() {
-        let n = segment_at(query, at);
+    for segment in text_query::segments_of(query) {
         let t = memory_access::trie_of(words, included);
-        included = scope_of(words, text, t.namespaces, &query[at..at + n]);
-        at = at + n + 1;
+        included = scope_of(words, text, t.namespaces, segment);
     }
     included
 }
@@ -52,15 +49,13 @@ pub fn trie_find_exact(words: &[u32], text: &[u8], root: u32, query: &[u8]) -> u
     ensures { FindsExact words.now text.now root (segments query.now) result }
 {
     let mut link = root;
-    let mut at = 0;
-    while at < query.len() {
-        let n = segment_at(query, at);
+    let mut left = text_query::segments_of(query);
+    while let Some(segment) = left.next() {
         let t = memory_access::trie_of(words, link);
-        if at + n + 1 == query.len() {
-            return find_list::names_find_exact(words, text, t.bindings, &query[at..at + n]);
+        if left.rest.is_empty() {
+            return find_list::names_find_exact(words, text, t.bindings, segment);
         }
-        link = scope_of(words, text, t.namespaces, &query[at..at + n]);
-        at = at + n + 1;
+        link = scope_of(words, text, t.namespaces, segment);
     }
     0
 }

@@ -5,7 +5,7 @@ use mathlib.Core.Bool.{Bool, true, false, cond}
 use mathlib.Core.List.{[], ◌∷◌}
 use native.Mathlib.Omega.{arith}
 use lib.Dec.{eqb, ltb}
-use borrow.Author.Tests.{eq-eqb, ne_eqb, ltb-true, ltb-false}
+use borrow.Author.Tests.{eq-eqb, ne_eqb, eqb-true, eqb-false, ltb-true, ltb-false}
 use lib.ListN.{length, get_or, take, drop, length-drop, drop_of_length-le}
 use lib.Seq.{drop-drop, take_all}
 use Rattle.std.specs.Prelude.{Option, None, Some}
@@ -169,3 +169,13 @@ segments_cut s n m e f h = rw tail_is (by_end (ltb n (length s)) refl)
     by_end false t =
         let k : n ≡ length s = omega (arith, ltb-false _ _ t, before_within s) in
         rw (k, take_all (length s) s (omega arith), segments_end s m (omega arith)) (no_dot s h (omega arith))
+
+pub segments_some : (s : Str) → 0 < length s → 0 < length (segments s)
+segments_some s h = rw (segments_cut s _ _ refl refl h) (omega arith)
+
+-- No segment is left at the end only.
+pub at_last : (s : Str) {b : Bool} → b ≡ eqb (length s) 0 → b ≡ true → segments s ≡ []
+at_last s e f = segments_none s (eqb-true _ _ (sym e ∙ f))
+
+pub before_last : (s : Str) {b : Bool} → b ≡ eqb (length s) 0 → b ≡ false → 0 < length (segments s)
+before_last s e f = segments_some s (omega (arith, eqb-false _ _ (sym e ∙ f)))

@@ -1,17 +1,12 @@
 -- trie_descend meets its contract: a walk by scope_of.
-use Prim.Native.Nat.{◌-◌}
-use lib.ListN.{length}
 use Rattle.source.specs.Text.{segments}
 use Rattle.memory.specs.Layout.{Which, trieˢ, what}
-use Rattle.find_trie.proofs.Found.{Stands, Descends}
+use Rattle.find_trie.proofs.Found.{Walked, Descends}
 use Rattle.memory.specs.Sound.{At}
 use Rattle.find_trie.proofs.trie_descend.Given as goal
 
-abbrev pub invariant-loop-at : goal.invariant-loop-at
-invariant-loop-at l =
+abbrev pub invariant-loop-segment : goal.invariant-loop-segment
+invariant-loop-segment l =
     (w : Which) → At l.words l.text w trieˢ l.root
-    → Stands l.words l.text w l.query l.root l.included l.at (Descends (what w l.words l.text l.root trieˢ) (segments l.query))
-
-abbrev pub decreases-loop-at : goal.decreases-loop-at
-decreases-loop-at l =
-    length l.query - l.at
+    → Walked l.words l.text w l.root l.included (segments l.segment-iterator.rest.now)
+    (Descends (what w l.words l.text l.root trieˢ) (segments l.query))
