@@ -24,16 +24,19 @@ use Rattle.source.specs.Forward.{base}
 use Rattle.memory.specs.Layout.{Item, trieˢ, what}
 use Rattle.memory.proofs.Tries.{trie_shallow}
 use Rattle.listing_ask.specs.Ask.{asked}
-use Rattle.listing_output.specs.Path.{Path, joined}
+use Rattle.listing_output.specs.Path.{joined}
 use Rattle.listing_line.specs.OnPath.{PathOk, OnPath}
 use Rattle.listing_output.specs.Output.{line_bytes, Written}
-use Rattle.listing_output.specs.Run.{Tally, Limits, Small, path_in, tally_in}
+use Rattle.listing_output.specs.Run.{Small}
+use Rattle.listing_output.specs.declared.run.Tally.{Tally}
+use Rattle.listing_output.specs.declared.run.Limits.{Limits}
+use Rattle.listing_output.specs.declared.run.Run.{Run}
 use Rattle.listing_line.specs.Goes.{Shows, Past, Fit, Goes}
 use Rattle.listing_ask.specs.declared.Ask.{Ask}
 use Rattle.listing_ask.specs.declared.Request.{Request}
 use Rattle.listing_line.proofs.Capped.{tally_is, tells_past}
 use Rattle.listing_trie.specs.Runs.{trie_gives, TrieReady, TrieRuns, TrieListed}
-use Rattle.listing_start.specs.Outset.{start_run}
+use Rattle.listing_start.specs.Outset.{root_path, nothing_yet, start_run}
 use Rattle.listing_start.proofs.Outset.{root_matching}
 use Rattle.refusals.specs.declared.Refusal.TheVariants.{Spent, Lines}
 use Rattle.listing.specs.Completes.{output, lines_of, CompletesAs, CompletesOn}
@@ -41,13 +44,6 @@ use Rattle.listing.specs.declared.Completed.{Completed}
 use Rattle.listing.specs.declared.Completed.TheVariants.{Listed, Refused}
 use Rattle.listing_trie.proofs.Listed.{no_label}
 use Rattle.memory.specs.Sound.{At}
-
--- The path to the root, and nothing counted.
-abbrev root_path : Limits → Path
-root_path lim = path_in (start_run lim.budget lim.lines lim.bytes)
-
-abbrev nothing_yet : Tally
-nothing_yet = tally_in (start_run 0 0 0)
 
 -- A lent part of no element leaves all.
 lent_nothing : (d part : List ℕ) → length part ≡ 0 → put_mid 0 0 d part ≡ d
@@ -64,10 +60,9 @@ module _ (ws txt : List ℕ) (ask : Ask) (root : ℕ) (query : Str) where
   abbrev tries : ℕ
   tries = tries_entered tr (segments query)
 
-  root_ok : (lim : Limits) → At ws txt (asked ask) trieˢ root → PathOk ws txt (asked ask) (root_path lim)
+  root_ok : At ws txt (asked ask) trieˢ root → PathOk ws txt (asked ask) root_path
   unfolding joined
-  root_ok lim t = record {
-    sized = refl;
+  root_ok t = record {
     few = omega arith;
     each = λ j h. absurd (omega arith);
     len_is = refl;
@@ -78,30 +73,28 @@ module _ (ws txt : List ℕ) (ask : Ask) (root : ℕ) (query : Str) where
 
   pub root_ready : {lim : Limits} → At ws txt (asked ask) trieˢ root → (ends_in_dot query ≡ true) × (length query ≤ 544)
       → Small lim
-      → TrieReady ws txt ask query (root_path lim) lim root
+      → TrieReady ws txt ask query root_path lim root
   root_ready {lim} t q s = record {
-    ready = record { path_ok = root_ok lim t; ends = q.0; short = q.1; small = s };
+    ready = record { path_ok = root_ok t; ends = q.0; short = q.1; small = s };
     trie_at = t;
     room = omega (arith, trie_shallow t);
   }
 
   -- What a run from the root gives.
-  pub root_runs : {budget lines bytes : ℕ} {run run' flat flat' out out' : List ℕ} {n : ℕ}
-      → run ≡ start_run budget lines bytes
+  pub root_runs : {lim : Limits} {run run' : Run} {flat flat' out out' : List ℕ} {n : ℕ} → run ≡ start_run lim
       → TrieListed ws txt query (record { ask = ask; matched = negsuc 0 }) run run' flat flat' out out' root n
-      → let lim : Limits = record { budget = budget; lines = lines; bytes = bytes } in
-      TrieRuns ws txt ask query (root_path lim) lim (negsuc 0) nothing_yet (tally_in run') flat flat' out out' root
+      → TrieRuns ws txt ask query root_path lim (negsuc 0) nothing_yet run'.tally flat flat' out out' root
   root_runs e t = (rw e at t).runs
 
-  on_root : (lim : Limits) → OnPath ws txt (root_path lim) []
+  on_root : OnPath ws txt root_path []
   unfolding joined base first_import_of_path
-  on_root lim = record { count = refl; text = refl; label_is = refl }
+  on_root = record { count = refl; text = refl; label_is = refl }
 
   module _ {lim : Limits} {a : Tally} {flat flat' out out' : List ℕ}
-      (r : TrieRuns ws txt ask query (root_path lim) lim (negsuc 0) nothing_yet a flat flat' out out' root) where
+      (r : TrieRuns ws txt ask query root_path lim (negsuc 0) nothing_yet a flat flat' out out' root) where
     run_goes : Goes (asked ask) ws txt lim nothing_yet a flat flat' out out'
         (trie_gives ask (suc (depth tr)) tr [] (segments query))
-    run_goes = r.goes [] (suc (depth tr)) (on_root lim) (root_matching (segments query)) (omega arith)
+    run_goes = r.goes [] (suc (depth tr)) on_root (root_matching (segments query)) (omega arith)
 
     none_shown : Shows lim 0 0 0 nothing_yet
     none_shown = record { spent = λ h. h; entered_is = λ h. refl; counted = λ h. inl (refl, refl) }
@@ -135,7 +128,7 @@ module _ (ws txt : List ℕ) (ask : Ask) (root : ℕ) (query : Str) where
 -- What is written where the output is as it was.
 pub writes_then : (ws txt : List ℕ) (ask : Ask) (root : ℕ) (query : Str) {lim : Limits} {a : Tally}
     {flat flat₁ flat' out out₁ out' : List ℕ} → flat₁ ≡ flat → out₁ ≡ out
-    → TrieRuns ws txt ask query (root_path lim) lim (negsuc 0) nothing_yet a flat₁ flat' out₁ out' root
+    → TrieRuns ws txt ask query root_path lim (negsuc 0) nothing_yet a flat₁ flat' out₁ out' root
     → Fit lim flat out (tries ws txt ask root query) (length (listed ws txt ask root query))
     (length (output_text (listed ws txt ask root query)))
     → Written (asked ask) ws txt flat flat' out out' 0 0 (listed ws txt ask root query)

@@ -10,7 +10,7 @@ ghost use Rattle.listing_ask.specs.Ask.{asked};
 ghost use Rattle.listing.specs.Completes.{CompletesOn};
 
 use listing_ask::Request;
-use listing_output::Want;
+use listing_output::{Limits, Want};
 use refusals::Refusal;
 
 // The answer of a completion: how many lines and tries entered, or a refusal.
@@ -42,8 +42,12 @@ pub fn complete(
     };
     let lines = listing_start::lines_lent(flat.len());
     let bytes = listing_start::lent(out.len());
-    let most = request.budget as usize;
-    let mut run = listing_start::start(most, lines, bytes);
+    let limits = Limits {
+        budget: request.budget as usize,
+        lines,
+        bytes,
+    };
+    let mut run = listing_start::start(limits);
     let entered = listing_trie::list_trie(
         words,
         text,
@@ -54,18 +58,16 @@ pub fn complete(
         &mut flat[0..0],
         &mut out[0..0],
     );
-    if most < entered {
+    if limits.budget < entered {
         return Completed::Refused(Refusal::Spent);
     }
-    let count = run[listing_output::LINES];
-    let size = run[listing_output::BYTES];
-    if lines < count {
+    if lines < run.tally.lines {
         return Completed::Refused(Refusal::Lines);
     }
-    if bytes < size {
+    if bytes < run.tally.bytes {
         return Completed::Refused(Refusal::Lines);
     }
-    let mut again = listing_start::start(most, lines, bytes);
+    let mut again = listing_start::start(limits);
     listing_trie::list_trie(words, text, query, want, root, &mut again, flat, out);
-    Completed::Listed(count as u32, entered as u32)
+    Completed::Listed(run.tally.lines as u32, entered as u32)
 }

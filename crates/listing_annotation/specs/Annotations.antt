@@ -7,7 +7,7 @@ use Rattle.memory.specs.Layout.{record_at, pick, modules, item_of}
 use Rattle.find_list.specs.Entries.{label_at}
 use Rattle.listing_ask.specs.declared.Ask.{Ask}
 use Rattle.listing_ask.specs.declared.Ask.TheVariants.{Names, Modules}
-use Rattle.listing_output.specs.Path.{Path}
+use Rattle.listing_output.specs.declared.run.Path.{Path}
 use Rattle.listing_annotation.specs.declared.Labelled.{Labelled}
 
 -- The collection of the outermost label of a path and the branch below it, 0 for none.

@@ -3,15 +3,14 @@
 
 ghost use Rattle.std.specs.Prelude.{◌≡◌, ℕ, ◌*◌, ◌<◌, ◌≤◌, List, length};
 ghost use Rattle.source.specs.Items.{same_kind};
-ghost use Rattle.source.specs.Limits.{record_words, most_used};
+ghost use Rattle.source.specs.Limits.{record_words};
 ghost use Rattle.memory.specs.Layout.{record_at, lid_in, item_of};
 ghost use Rattle.listing_ask.specs.Ask.{asked, passes};
-ghost use Rattle.listing_output.specs.Run.{path_in};
 ghost use Rattle.listing_output.specs.Parts.{TextAt};
 ghost use Rattle.listing_annotation.specs.Annotations.{note_at, outermost, annotation};
 
 use listing_ask::Ask;
-use listing_output::{COUNT, LABEL, RUN};
+use listing_output::Path;
 use memory::ModSymbol;
 use source::{ItemKind, KindFilter};
 
@@ -22,15 +21,23 @@ pub struct Labelled {
     pub label: u32,
 }
 
+// The annotations of symbols: of a loaded module, of another, of a loaded namespace, of another.
+#[derive(Clone, Copy)]
+pub struct Notes<'a> {
+    pub loaded_module: &'a [u8],
+    pub other_module: &'a [u8],
+    pub loaded_namespace: &'a [u8],
+    pub other_namespace: &'a [u8],
+}
+
 // The collection of the outermost label of the path and the branch below it, 0 for none.
-pub fn outermost(run: &[usize; RUN], label: u32) -> u32
-    requires { (path_in run.now).label ≤ most_used }
-    ensures { result ≡ outermost (path_in run.now) label }
+pub fn outermost(path: &Path, label: u32) -> u32
+    ensures { result ≡ outermost path.now label }
 {
-    if run[COUNT] == 0 {
+    if path.n == 0 {
         return label;
     }
-    run[LABEL] as u32
+    path.label
 }
 
 // The label of a collection, empty for none.
@@ -76,22 +83,19 @@ pub fn kept(words: &[u32], ask: Ask, branch: u32) -> bool
     }
 }
 
-// The annotation of a found branch: the label of the collection `found.label`; or of the four that of
-// its symbol, a loaded module, another, a loaded namespace, another.
+// The annotation of a found branch: the label of the collection `found.label`, or of the notes that of its symbol.
 pub fn annotation<'a>(
     words: &[u32],
     text: &'a [u8],
     ask: Ask,
     found: Labelled,
-    first: &'a [u8],
-    second: &'a [u8],
-    third: &'a [u8],
-    fourth: &'a [u8],
+    notes: Notes<'a>,
 ) -> &'a [u8]
     requires link_nonzero { (0 < found.link) × (found.link * record_words ≤ length words.now) }
     requires text_at { 0 < found.label → TextAt words.now text.now found.label }
     ensures { result.now ≡ annotation ask words.now text.now found
-        first.now second.now third.now fourth.now }
+        notes.entry.loaded_module.now notes.entry.other_module.now
+        notes.entry.loaded_namespace.now notes.entry.other_namespace.now }
 {
     match ask {
         Ask::Names(_) => note_of(words, text, found.label),
@@ -100,15 +104,15 @@ pub fn annotation<'a>(
             match symbol {
                 ModSymbol::Module(_, _, loaded) => {
                     if loaded {
-                        return first;
+                        return notes.loaded_module;
                     }
-                    second
+                    notes.other_module
                 }
                 ModSymbol::Namespace(_, loaded) => {
                     if loaded {
-                        return third;
+                        return notes.loaded_namespace;
                     }
-                    fourth
+                    notes.other_namespace
                 }
             }
         }

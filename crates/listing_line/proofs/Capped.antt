@@ -7,7 +7,8 @@ use native.Mathlib.Omega.{arith}
 use lib.Dec.{leb}
 use borrow.Author.Tests.{leb-true, leb-false}
 use Rattle.memory.specs.Sound.{Says}
-use Rattle.listing_output.specs.Run.{Tally, Limits}
+use Rattle.listing_output.specs.declared.run.Tally.{Tally}
+use Rattle.listing_output.specs.declared.run.Limits.{Limits}
 use Rattle.listing_line.specs.Goes.{Capped, Past}
 
 module _ {limit x a : ℕ} where

@@ -8,7 +8,8 @@ use lib.ListN.{length, length-append}
 use Rattle.source.specs.Calls.{output_text}
 use Rattle.source.proofs.Lines.{output_text_append}
 use Rattle.memory.specs.Layout.{Which, Item}
-use Rattle.listing_output.specs.Run.{Tally, Limits}
+use Rattle.listing_output.specs.declared.run.Tally.{Tally}
+use Rattle.listing_output.specs.declared.run.Limits.{Limits}
 use Rattle.listing_output.proofs.Written.{written_none, written_then}
 use Rattle.listing_line.specs.Goes.{Result, ◌⊕◌, Past, Goes}
 use Rattle.listing_line.specs.Lines.{only}

@@ -12,7 +12,8 @@ use Rattle.memory.specs.Sound.{Says}
 use Rattle.memory.proofs.Says.{says_passes, says_refuses}
 use Rattle.text.proofs.Laid.{laid_length}
 use Rattle.listing_output.specs.Output.{line_bytes, Written}
-use Rattle.listing_output.specs.Run.{Tally, Job}
+use Rattle.listing_output.specs.Run.{Job}
+use Rattle.listing_output.specs.declared.run.Tally.{Tally}
 use Rattle.listing_line.specs.Goes.{Capped, Fit}
 use Rattle.listing_output.specs.Parts.{Spells, JobOk, size_of, LineFits, LinePut}
 use Rattle.listing_line.specs.Parts.{TriedLine, PutLine}

@@ -22,7 +22,8 @@ use Rattle.find_tree.specs.Tree.{held}
 use Rattle.find_tree.specs.Links.{row_at}
 use Rattle.find_list.specs.Entries.{label_at, shown, outer}
 use Rattle.listing_ask.specs.Ask.{filter_in, asked, passes, result_of}
-use Rattle.listing_output.specs.Path.{Path, BranchAt}
+use Rattle.listing_output.specs.Path.{BranchAt}
+use Rattle.listing_output.specs.declared.run.Path.{Path}
 use Rattle.listing_line.specs.OnPath.{OnPath}
 use Rattle.listing_line.specs.Lines.{Listed}
 use Rattle.listing_output.specs.Parts.{candidate_of}
@@ -31,7 +32,8 @@ use Rattle.listing_line.specs.Parts.{PutLine}
 use Rattle.listing_ask.specs.declared.Ask.{Ask}
 use Rattle.listing_annotation.specs.declared.Labelled.{Labelled}
 use Rattle.listing_ask.specs.declared.Ask.TheVariants.{Names, Modules}
-use Rattle.listing_output.specs.Run.{path_in, tally_in, job_in, Told}
+use Rattle.listing_output.specs.Run.{job_in, Told}
+use Rattle.listing_output.specs.declared.run.Run.{Run}
 use Rattle.listing_line.specs.SameRun.{SamePath}
 use Rattle.listing_line.proofs.Goes.{goes_none}
 use Rattle.listing_line.proofs.Run.{same_run}
@@ -66,20 +68,20 @@ unfolding kept_line
 kept_is result keep y a e = ap (λ a. cond (keep a) (result y ∷ []) []) e
 
 -- What line answers: nothing for an item that does not pass, else its line.
-module _ {ws txt : List ℕ} {f : Labelled} {run flat out : List ℕ} {m : ℤ} where
+module _ {ws txt : List ℕ} {f : Labelled} {run : Run} {flat out : List ℕ} {m : ℤ} where
   pub listed_none : (ask : Ask) → passes ask (item_of (asked ask) txt (record_at ws f.link)) ≡ false
       → Listed ws txt (record { ask = ask; matched = m }) f run run flat flat out out
   listed_none ask h = record {
     same = same_run run;
     goes = λ path x q o e k.
         let i = element (asked ask) f.link f.label x q o e in
-        rw (kept_is (result_of ask) (passes ask) (line path x) _ i.item, h) (goes_none (tally_in run) flat out);
+        rw (kept_is (result_of ask) (passes ask) (line path x) _ i.item, h) (goes_none run.tally flat out);
   }
 
-  pub listed_one : {run' flat' out' : List ℕ} (ask : Ask) → BranchAt ws txt (asked ask) bind f.link → Told m
+  pub listed_one : {run' : Run} {flat' out' : List ℕ} (ask : Ask) → BranchAt ws txt (asked ask) bind f.link → Told m
       → SamePath run run' → passes ask (item_of (asked ask) txt (record_at ws f.link)) ≡ true
-      → PutLine ws txt (job_in f.link m run) (noted ask ws txt (record { link = f.link; label = outermost (path_in run) f.label }))
-      (tally_in run') flat flat' out out'
+      → PutLine ws txt (job_in f.link m run) (noted ask ws txt (record { link = f.link; label = outermost run.path f.label }))
+      run'.tally flat flat' out out'
       → Listed ws txt (record { ask = ask; matched = m }) f run run' flat flat' out out'
   unfolding completion_result_of_lid completion_result_of_ns_or_mod
   listed_one (Names g) b t s h put = record {

@@ -13,9 +13,11 @@ use Rattle.memory.proofs.RecordOk.{branch_at, collection_at}
 use Rattle.memory.proofs.Seen.{link_fits, link_ok}
 use lib.Dec.{eqb}
 use lib.ListN.{length}
-use Rattle.listing_output.specs.Path.{Path, BranchAt}
+use Rattle.listing_output.specs.Path.{BranchAt}
+use Rattle.listing_output.specs.declared.run.Path.{Path}
 use Rattle.listing_line.specs.OnPath.{LabelAt, PathOk}
-use Rattle.listing_output.specs.Run.{path_in, job_in}
+use Rattle.listing_output.specs.Run.{job_in}
+use Rattle.listing_output.specs.declared.run.Run.{Run}
 use Rattle.listing_line.specs.Lines.{CanList}
 use Rattle.listing_output.specs.Parts.{TextAt, PathAt, JobOk}
 use Rattle.listing_annotation.specs.Annotations.{outermost}
@@ -49,17 +51,17 @@ module _ {ws txt : List ℕ} {w : Which} {ℓ : Level} {x : ℕ} where
       text_at b.at.sound b.at.link p t (omega (arith, t.keeps))
 
 pub path_at : {ws txt : List ℕ} {w : Which} {p : Path} → PathOk ws txt w p → PathAt ws txt p
-path_at o = record { sized = o.sized; few = o.few; each = λ j h. branch_text (o.each j h); len_is = o.len_is; short = o.short }
+path_at o = record { few = o.few; each = λ j h. branch_text (o.each j h); len_is = o.len_is; short = o.short }
 
 -- What line is given is what its parts need.
-module _ {ws txt : List ℕ} {want : Want} {f : Labelled} {run : List ℕ} (o : CanList ws txt want f run) where
+module _ {ws txt : List ℕ} {want : Want} {f : Labelled} {run : Run} (o : CanList ws txt want f run) where
   pub job_ok : JobOk ws txt (job_in f.link want.matched run)
   job_ok = record { path = path_at o.path_ok; branch = branch_text o.branch_at; small = o.small }
 
-  pub outermost_text : {x : ℕ} → x ≡ outermost (path_in run) f.label → 0 < x → TextAt ws txt x
-  outermost_text e h = rw e (go (eqb (path_in run).n 0) (rw e at h))
+  pub outermost_text : {x : ℕ} → x ≡ outermost run.path f.label → 0 < x → TextAt ws txt x
+  outermost_text e h = rw e (go (eqb run.path.n 0) (rw e at h))
     where
-      go : (b : Bool) → 0 < pick b f.label (path_in run).label
-          → TextAt ws txt (pick b f.label (path_in run).label)
+      go : (b : Bool) → 0 < pick b f.label run.path.label
+          → TextAt ws txt (pick b f.label run.path.label)
       go true h = label_text o.label_at h
       go false h = label_text o.path_ok.label_ok h

@@ -4,7 +4,8 @@ use Rattle.source.specs.Table.{Line}
 use Rattle.source.specs.Calls.{output_text}
 use Rattle.memory.specs.Layout.{Which, Item}
 use Rattle.listing_output.specs.Output.{line_bytes, Written}
-use Rattle.listing_output.specs.Run.{Tally, Limits}
+use Rattle.listing_output.specs.declared.run.Tally.{Tally}
+use Rattle.listing_output.specs.declared.run.Limits.{Limits}
 
 -- What a part of a listing gives: its lines, and the tries entered.
 pub record Result (A : Type 0) : Type 0 where

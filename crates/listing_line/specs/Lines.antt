@@ -13,7 +13,8 @@ use Rattle.listing_ask.specs.Ask.{asked, line_for}
 use Rattle.listing_output.specs.Path.{BranchAt}
 use Rattle.listing_line.specs.OnPath.{LabelAt, PathOk, OnPath}
 use Rattle.listing_line.specs.Goes.{Result, Goes}
-use Rattle.listing_output.specs.Run.{Small, path_in, tally_in, limits_in, Told}
+use Rattle.listing_output.specs.Run.{Small, Told}
+use Rattle.listing_output.specs.declared.run.Run.{Run}
 use Rattle.listing_line.specs.SameRun.{SamePath}
 use Rattle.listing_output.specs.declared.Want.{Want}
 use Rattle.listing_annotation.specs.declared.Labelled.{Labelled}
@@ -23,19 +24,20 @@ abbrev pub only : {A : Type 0} → List (Line A) → Result A
 only ls = record { lines = ls; entered = 0 }
 
 -- The path, a found branch of bindings and its label are there, the limits are small, and the match length is one.
-pub record CanList (ws txt : List ℕ) (want : Want) (f : Labelled) (run : List ℕ) : Type 0 where
-  pub path_ok : PathOk ws txt (asked want.ask) (path_in run)
+pub record CanList (ws txt : List ℕ) (want : Want) (f : Labelled) (run : Run) : Type 0 where
+  pub path_ok : PathOk ws txt (asked want.ask) run.path
   pub branch_at : BranchAt ws txt (asked want.ask) bind f.link
   pub label_at : LabelAt ws txt (asked want.ask) bind f.label
-  pub small : Small (limits_in run)
+  pub small : Small run.limits
   pub told : Told want.matched
 
 -- The run went on by what is asked of a found element of bindings, where the branch and the label show it and it ends a path.
-pub record Listed (ws txt : List ℕ) (want : Want) (f : Labelled) (run run' flat flat' out out' : List ℕ) : Type 0 where
+pub record Listed (ws txt : List ℕ) (want : Want) (f : Labelled) (run run' : Run)
+    (flat flat' out out' : List ℕ) : Type 0 where
   pub same : SamePath run run'
   pub goes : (path : PathOf) (x : PathElem × Value (Item (asked want.ask)) bind) (q : Option Str)
-      → OnPath ws txt (path_in run) path
+      → OnPath ws txt run.path path
       → outer x ≡ shown (asked want.ask) ws txt bind q (record { branch = f.link; label = f.label })
       → match_length_of_path (reverse (x.0 ∷ path)) ≡ want.matched
-      → Goes (asked want.ask) ws txt (limits_in run) (tally_in run) (tally_in run') flat flat' out out'
+      → Goes (asked want.ask) ws txt run.limits run.tally run'.tally flat flat' out out'
       (only (line_for want.ask (line path x)))

@@ -1,6 +1,5 @@
 -- A path of links that are there, and the path of the source that they spell.
 use Rattle.std.specs.Prelude.{ℕ, ◌*◌, ◌<◌, ◌≤◌, ◌≡◌, List, reverse, length, get_or}
-use Rattle.listing_output.specs.Run.{run_size}
 use Rattle.source.specs.Limits.{deepest_trie}
 use Rattle.source.specs.Types.{Level, ns}
 use Rattle.source.specs.Listing.{PathOf}
@@ -9,7 +8,8 @@ use Rattle.source.specs.Forward.{base}
 use Rattle.memory.specs.Layout.{Which, record_at, sort_word, list}
 use Rattle.memory.specs.Sound.{At}
 use Rattle.find_list.specs.Entries.{label_at}
-use Rattle.listing_output.specs.Path.{Path, joined, BranchAt}
+use Rattle.listing_output.specs.Path.{joined, BranchAt}
+use Rattle.listing_output.specs.declared.run.Path.{Path}
 
 -- Link x is 0, or that of a collection with a label.
 pub record LabelAt (ws txt : List ℕ) (w : Which) (ℓ : Level) (x : ℕ) : Type 0 where
@@ -18,7 +18,6 @@ pub record LabelAt (ws txt : List ℕ) (w : Which) (ℓ : Level) (x : ℕ) : Typ
 
 -- The links are branches of namespaces, at most 16, and the length is that of their text.
 pub record PathOk (ws txt : List ℕ) (w : Which) (p : Path) : Type 0 where
-  pub sized : length p.links ≡ run_size
   pub few : p.n ≤ deepest_trie
   pub each : (j : ℕ) → j < p.n → BranchAt ws txt w ns (get_or p.links j 0)
   pub len_is : p.len ≡ length (joined ws txt p.links p.n)

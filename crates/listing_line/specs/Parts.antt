@@ -3,7 +3,8 @@ use Rattle.std.specs.Prelude.{ℕ, ◌+◌, ◌≡◌, List, [], ◌∷◌, leng
 use Rattle.source.specs.Text.{Str}
 use Rattle.source.specs.Table.{Line}
 use Rattle.memory.specs.Layout.{Which, Item}
-use Rattle.listing_output.specs.Run.{Tally, Job}
+use Rattle.listing_output.specs.Run.{Job}
+use Rattle.listing_output.specs.declared.run.Tally.{Tally}
 use Rattle.listing_line.specs.Goes.{Fit, Goes}
 use Rattle.listing_output.specs.Parts.{Spells, size_of, LinePut}
 use Rattle.listing_line.specs.Lines.{only}

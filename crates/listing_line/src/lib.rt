@@ -4,15 +4,15 @@
 ghost use Rattle.std.specs.Prelude.{ℕ, ◌+◌, ◌≤◌, length};
 ghost use Rattle.source.specs.Limits.{longest_full_name, most_used};
 ghost use Rattle.memory.specs.Sound.{Says};
-ghost use Rattle.listing_output.specs.Run.{tally_in, job_in};
+ghost use Rattle.listing_output.specs.Run.{job_in};
 ghost use Rattle.listing_line.specs.SameRun.{SamePath};
 ghost use Rattle.listing_line.specs.Goes.{Capped};
 ghost use Rattle.listing_line.specs.Lines.{CanList, Listed};
 ghost use Rattle.listing_output.specs.Parts.{JobOk};
 ghost use Rattle.listing_line.specs.Parts.{TriedLine, PutLine};
 
-use listing_annotation::Labelled;
-use listing_output::{BYTES, LENGTH, LINE_BYTES, LINES, MOST_BYTES, MOST_LINES, RUN, Want};
+use listing_annotation::{Labelled, Notes};
+use listing_output::{LINE_BYTES, Run, Want};
 
 // The sum, where `a` is not past the limit already.
 fn add(a: usize, n: usize, limit: usize) -> usize
@@ -29,16 +29,8 @@ fn add(a: usize, n: usize, limit: usize) -> usize
 fn fits(at: usize, n: usize, limit: usize, lent: usize) -> bool
     ensures { Says result ((at + n ≤ limit) × (at + n ≤ lent)) }
 {
-    if limit < at {
-        return false;
-    }
-    if lent < at {
-        return false;
-    }
-    if limit - at < n {
-        return false;
-    }
-    n <= lent - at
+    at.checked_add(n)
+        .is_some_and(|end| end <= limit && end <= lent)
 }
 
 // Writes it where it fits.
@@ -48,7 +40,7 @@ fn try_line(
     branch: u32,
     note: &[u8],
     want: Want,
-    run: &[usize; RUN],
+    run: &Run,
     flat: &mut [u8],
     out: &mut [u8],
 )
@@ -57,11 +49,16 @@ fn try_line(
     ensures { TriedLine words.now text.now (job_in branch want.matched run.now) note.now
         flat.old flat.new out.old out.new }
 {
-    if !fits(run[LINES], 1, run[MOST_LINES], flat.len() / LINE_BYTES) {
+    if !fits(
+        run.tally.lines,
+        1,
+        run.limits.lines,
+        flat.len() / LINE_BYTES,
+    ) {
         return;
     }
-    let size = run[LENGTH] + memory_access::text_len(words, branch) as usize + note.len();
-    if !fits(run[BYTES], size, run[MOST_BYTES], out.len()) {
+    let size = run.path.len + memory_access::text_len(words, branch) as usize + note.len();
+    if !fits(run.tally.bytes, size, run.limits.bytes, out.len()) {
         return;
     }
     listing_output::write_line(words, text, branch, note, want, run, flat, out);
@@ -74,7 +71,7 @@ fn put_line(
     branch: u32,
     note: &[u8],
     want: Want,
-    run: &mut [usize; RUN],
+    run: &mut Run,
     flat: &mut [u8],
     out: &mut [u8],
 )
@@ -82,15 +79,12 @@ fn put_line(
     requires note_len_bound { length note.now ≤ longest_full_name }
     ensures same_path { SamePath run.old run.new }
     ensures put_line { PutLine words.now text.now (job_in branch want.matched run.old) note.now
-        (tally_in run.new) flat.old flat.new out.old out.new }
+        run.new.tally flat.old flat.new out.old out.new }
 {
-    let lines = run[LINES];
-    let bytes = run[BYTES];
-    let size = run[LENGTH] + memory_access::text_len(words, branch) as usize + note.len();
+    let size = run.path.len + memory_access::text_len(words, branch) as usize + note.len();
     try_line(words, text, branch, note, want, run, flat, out);
-    let most = run[MOST_BYTES];
-    run[LINES] = add(lines, 1, run[MOST_LINES]);
-    run[BYTES] = add(bytes, size, most);
+    run.tally.lines = add(run.tally.lines, 1, run.limits.lines);
+    run.tally.bytes = add(run.tally.bytes, size, run.limits.bytes);
 }
 
 // The line of a found branch of bindings below the path, if the filter keeps it.
@@ -98,7 +92,7 @@ pub fn line(
     words: &[u32],
     text: &[u8],
     found: Labelled,
-    run: &mut [usize; RUN],
+    run: &mut Run,
     want: Want,
     flat: &mut [u8],
     out: &mut [u8],
@@ -113,10 +107,14 @@ pub fn line(
     }
     let named = Labelled {
         link: found.link,
-        label: listing_annotation::outermost(run, found.label),
+        label: listing_annotation::outermost(&run.path, found.label),
     };
-    let note = listing_annotation::annotation(
-        words, text, ask, named, b" mod ", b"(mod)", b" ns ", b"(ns)",
-    );
+    let notes = Notes {
+        loaded_module: b" mod ",
+        other_module: b"(mod)",
+        loaded_namespace: b" ns ",
+        other_namespace: b"(ns)",
+    };
+    let note = listing_annotation::annotation(words, text, ask, named, notes);
     put_line(words, text, found.link, note, want, run, flat, out);
 }

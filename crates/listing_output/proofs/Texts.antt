@@ -6,6 +6,7 @@ use native.Mathlib.Omega.{arith}
 use native.Mathlib.Numerals.{add-one}
 use lib.ListN.{length, get_or, set, take, drop, length-append, take-append-drop}
 use lib.Seq.{take-length, length-take-le}
+use Rattle.std.proofs.Common.{length-take, get_or-take}
 use Rattle.source.specs.Text.{dot}
 use Rattle.memory.specs.Layout.{key_at}
 use Rattle.memory.specs.Grown.{put_text}
@@ -54,6 +55,11 @@ module _ (ws txt links : List ℕ) where
   joined_grows : (i k : ℕ) → length (joined ws txt links i) ≤ length (joined ws txt links (i + k))
   joined_grows i zero = let e : i + 0 ≡ i = omega arith in rw e (omega arith)
   joined_grows i (suc k) = let e : i + suc k ≡ i + k + 1 = omega arith in rw e (omega (arith, joined_grows i k, joined_length (i + k)))
+
+-- A link of the path, by its place among those that are read.
+pub link_at : (links : List ℕ) (n i : ℕ) → i < length (take n links)
+    → (i < n) × (get_or (take n links) i 0 ≡ get_or links i 0)
+link_at links n i h = let k : i < n = omega (arith, length-take n links) in (k, get_or-take n links i 0 k)
 
 -- The loop has written the first i keys of the path, each with a dot.
 pub record Joining (ws txt links : List ℕ) (n : ℕ) (d out : List ℕ) (at end i : ℕ) : Type 0 where

@@ -8,9 +8,10 @@ use Rattle.source.specs.Table.{Line}
 use Rattle.memory.specs.Layout.{record_at, Which, Item, item_of, key_at, text_start, text_len, number_word, name_start, name_len, path_start, path_len}
 use Rattle.memory.specs.Layout.{loaded_word}
 use Rattle.text.specs.Laid.{Laid}
-use Rattle.listing_output.specs.Path.{Path, joined, BranchAt}
+use Rattle.listing_output.specs.Path.{joined, BranchAt}
+use Rattle.listing_output.specs.declared.run.Path.{Path}
 use Rattle.listing_output.specs.Output.{line_bytes, line_words}
-use Rattle.listing_output.specs.Run.{Small, Job, run_size}
+use Rattle.listing_output.specs.Run.{Small, Job}
 
 -- ---- What is read
 
@@ -25,7 +26,6 @@ pub record TextAt (ws txt : List ℕ) (x : ℕ) : Type 0 where
 
 -- The links of a path name keys, and the length is that of their text.
 pub record PathAt (ws txt : List ℕ) (p : Path) : Type 0 where
-  pub sized : length p.links ≡ run_size
   pub few : p.n ≤ deepest_trie
   pub each : (j : ℕ) → j < p.n → TextAt ws txt (get_or p.links j 0)
   pub len_is : p.len ≡ length (joined ws txt p.links p.n)

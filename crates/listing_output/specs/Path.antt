@@ -5,14 +5,6 @@ use Rattle.source.specs.Types.{Level}
 use Rattle.memory.specs.Layout.{Which, tree, key_at}
 use Rattle.memory.specs.Sound.{At}
 
--- The numbers of a run, of which the first are branches of namespaces from the root on, how many, the bytes of their keys with a dot after each,
--- and the collection of the outermost label of the first, 0 for none.
-pub record Path : Type 0 where
-  pub links : List ℕ
-  pub n : ℕ
-  pub len : ℕ
-  pub label : ℕ
-
 -- The keys of the first n links, each with a dot after it.
 unfoldable pub joined : (ws txt links : List ℕ) → ℕ → Str
 joined ws txt links zero = []

@@ -1,14 +1,20 @@
 // The writing of one line into the lent output: its candidate, its annotation, its twelve words.
+// The two lent outputs stay two parameters: behind one struct of two `&mut` each clause also has to say that its fields are still the caller's.
 #![tactic(auto)]
 
 ghost use Rattle.std.specs.Prelude.{◌≡◌, ◌+◌, ◌*◌, ◌<◌, ◌≤◌, length};
 ghost use Rattle.source.specs.Limits.{record_words};
 ghost use Rattle.memory.specs.Layout.{record_at, key_at};
 ghost use Rattle.text.specs.Laid.{Laid};
-ghost use Rattle.listing_output.specs.Run.{path_in, length_word, job_in};
+ghost use Rattle.listing_output.specs.Run.{length_word, job_in};
 ghost use Rattle.listing_output.specs.Parts.{TextAt, PathAt, JobOk, LineFits, candidate_of, line_row, LinePut};
 
 use listing_ask::Ask;
+
+// A run: its path, its tally and its limits.
+mod run;
+
+pub use run::{LINKS, Limits, Path, Run, Tally};
 
 // What is wanted of a branch or a trie: what is asked, and the match length of what is listed.
 #[derive(Clone, Copy)]
@@ -21,36 +27,6 @@ pub struct Want {
 pub const LINE: usize = 12;
 
 pub const LINE_BYTES: usize = 48;
-
-// A run is lent as numbers. First the links of the path to the trie at hand, branches of namespaces from the root on, 16 at most. Then:
-// how many they are,
-pub const COUNT: usize = 16;
-
-// the bytes of their keys with a dot after each,
-pub const LENGTH: usize = 17;
-
-// the collection of the outermost label of the first, 0 for none;
-pub const LABEL: usize = 18;
-
-// what the completion has taken: tries entered,
-pub const ENTERED: usize = 19;
-
-// lines,
-pub const LINES: usize = 20;
-
-// bytes;
-pub const BYTES: usize = 21;
-
-// what it may take: tries entered,
-pub const BUDGET: usize = 22;
-
-// lines,
-pub const MOST_LINES: usize = 23;
-
-// bytes.
-pub const MOST_BYTES: usize = 24;
-
-pub const RUN: usize = 25;
 
 // Writes the key of a branch from `at` on: lends on the part after the last text.
 fn put_key(words: &[u32], text: &[u8], branch: u32, out: &mut [u8], at: usize) -> usize
@@ -67,27 +43,23 @@ fn put_key(words: &[u32], text: &[u8], branch: u32, out: &mut [u8], at: usize) -
 fn put_candidate(
     words: &[u32],
     text: &[u8],
-    run: &[usize; RUN],
+    path: &Path,
     branch: u32,
     out: &mut [u8],
     at: usize,
 ) -> usize
-    requires path_at { PathAt words.now text.now (path_in run.now) }
+    requires path_at { PathAt words.now text.now path.now }
     requires text_at { TextAt words.now text.now branch }
-    requires branch_in_bounds { at + (path_in run.now).len
+    requires branch_in_bounds { at + path.now.len
         + length (key_at words.now text.now branch) ≤ length out.old }
     ensures { Laid out.old out.new at result
-        (candidate_of words.now text.now (path_in run.now) branch) }
+        (candidate_of words.now text.now path.now branch) }
 {
-    let n = run[COUNT];
     let mut end = at;
-    let mut i = 0;
-    while i < n {
-        let link = run[i] as u32;
+    for &link in &path.links[..path.n] {
         end = put_key(words, text, link, out, end);
-        out[end] = 46;
+        out[end] = b'.';
         end += 1;
-        i += 1;
     }
     put_key(words, text, branch, out, end)
 }
@@ -96,10 +68,7 @@ fn put_candidate(
 fn length_word(matched: i32) -> u32
     ensures { result ≡ length_word matched }
 {
-    if matched < 0 {
-        return 4294967295;
-    }
-    matched as u32
+    u32::try_from(matched).unwrap_or(u32::MAX)
 }
 
 // The words of a line.
@@ -138,7 +107,7 @@ pub fn write_line(
     branch: u32,
     note: &[u8],
     want: Want,
-    run: &[usize; RUN],
+    run: &Run,
     flat: &mut [u8],
     out: &mut [u8],
 )
@@ -147,9 +116,9 @@ pub fn write_line(
     ensures { LinePut words.now text.now (job_in branch want.matched run.now) note.now
         flat.old flat.new out.old out.new }
 {
-    let at = run[BYTES];
-    let base = run[LINES] * LINE_BYTES;
-    let end = put_candidate(words, text, run, branch, out, at);
+    let at = run.tally.bytes;
+    let base = run.tally.lines * LINE_BYTES;
+    let end = put_candidate(words, text, &run.path, branch, out, at);
     memory_access::put_text(&mut out[end..], 0, note);
     let row = line_row(
         words,

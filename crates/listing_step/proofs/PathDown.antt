@@ -8,10 +8,8 @@ use native.Mathlib.Omega.{arith}
 use native.Mathlib.Numerals.{add-one}
 use native.Mathlib.Decide.{ℕ_discrete}
 use lib.Dec.{eqb}
-use lib.ListN.{length, get_or, set, length-set, length-append}
-use lib.Seq.{get_or-set_same, get_or-set_other}
+use lib.ListN.{length, get_or, length-append}
 use borrow.Author.Tests.{eq-eqb, ne_eqb}
-use Rattle.listing_output.specs.Run.{run_size}
 use Rattle.source.specs.Text.{Str, dot}
 use Rattle.source.specs.Types.{Level, Trie, ns}
 use Rattle.source.specs.Trees.{PathElem}
@@ -24,11 +22,11 @@ use Rattle.memory.proofs.Pasted.{span_length}
 use Rattle.find_tree.specs.Links.{row_at}
 use Rattle.find_tree.proofs.Branches.{branch_right, any_tree, key_inside}
 use Rattle.find_list.specs.Entries.{label_at, shown, outer}
-use Rattle.listing_output.specs.Path.{Path, joined, BranchAt}
+use Rattle.listing_output.specs.Path.{joined, BranchAt}
+use Rattle.listing_output.specs.declared.run.Path.{Path}
 use Rattle.listing_line.specs.OnPath.{LabelAt, PathOk, OnPath}
 use Rattle.listing_line.proofs.Run.{joined_same}
-use Rattle.listing_annotation.specs.declared.Labelled.{Labelled}
-use Rattle.listing_step.specs.Steps.{PathDown, Entered, PathSet}
+use Rattle.listing_step.specs.Steps.{PathDown}
 use Rattle.memory.proofs.At.{at_fits}
 
 -- A branch is a tree.
@@ -66,7 +64,6 @@ module _ {ws txt : List ℕ} {w : Which} {p r : Path} {branch label : ℕ} (ok :
 
   pub path_down : LabelAt ws txt w ns label → PathOk ws txt w r
   path_down l = record {
-    sized = d.size ∙ ok.sized;
     few = omega (arith, d.count);
     each = λ j h. each_down j (omega (arith, d.count));
     len_is =
@@ -99,44 +96,3 @@ module _ {ws txt : List ℕ} {w : Which} {p r : Path} {branch label : ℕ} (ok :
           → label_at ws txt r.label ≡ first_import_of_path (reverse (x.0 ∷ path))
       go [] c l = rw (d.label_is, eq-eqb p.n 0 c) (sym (ap (λ y. y.0) e) ∙ sym (first_import_one x.0))
       go (y ∷ path) c l = rw (d.label_is, ne_eqb p.n 0 (λ z. omega arith)) (l ∙ sym (first_import_more x.0 y path))
-
--- ---- The path of a run
-
-module _ (run : List ℕ) (n len label : ℕ) where
-  abbrev pub given : List ℕ
-  given = set (set (set run 16 n) 17 len) 18 label
-
-  kept : (k : ℕ) → (k ≡ 16 → ⊥) → (k ≡ 17 → ⊥) → (k ≡ 18 → ⊥) → get_or given k 0 ≡ get_or run k 0
-  kept k a b c = get_or-set_other (set (set run 16 n) 17 len) 18 k label 0 c ∙ get_or-set_other (set run 16 n) 17 k len 0 b ∙ get_or-set_other run 16 k n 0 a
-
-  pub path_set : length run ≡ run_size → PathSet run given n len label
-  path_set e = record {
-    size = simp length-set;
-    links = λ j h. kept j (λ z. omega arith) (λ z. omega arith) (λ z. omega arith);
-    count = get_or-set_other (set (set run 16 n) 17 len) 18 16 label 0 (λ z. omega arith) ∙ get_or-set_other (set run 16 n) 17 16 len 0 (λ z. omega arith)
-        ∙ get_or-set_same run 16 n 0 (omega arith);
-    len_is = get_or-set_other (set (set run 16 n) 17 len) 18 17 label 0 (λ z. omega arith)
-        ∙ get_or-set_same (set run 16 n) 17 len 0 (omega (arith, length-set run 16 n));
-    label_is = get_or-set_same (set (set run 16 n) 17 len) 18 label 0 (omega (arith, length-set (set run 16 n) 17 len, length-set run 16 n));
-    after = λ k h. kept k (λ z. omega arith) (λ z. omega arith) (λ z. omega arith);
-  }
-
-pub run_entered : {ws : List ℕ} (f : Labelled) {run run' : List ℕ} {len label : ℕ}
-    → (length run ≡ run_size) × (get_or run 16 0 < 16) × (get_or run 17 0 ≤ 544)
-    → PathSet (set run (get_or run 16 0) f.link) run' (get_or run 16 0 + 1) len label
-    → len ≡ get_or run 17 0 + text_len (record_at ws f.link) + 1
-    → label ≡ pick (eqb (get_or run 16 0) 0) f.label (get_or run 18 0) → Entered ws f run run'
-run_entered f {run} r s l b = record {
-  down = record {
-    size = s.size ∙ length-set run (get_or run 16 0) f.link;
-    before = λ j h. s.links j (omega (arith, r.1)) ∙ apart j (λ z. omega arith);
-    last = s.links (get_or run 16 0) r.1 ∙ get_or-set_same run (get_or run 16 0) f.link 0 (omega (arith, r.0, r.1));
-    count = s.count;
-    len_is = s.len_is ∙ l;
-    label_is = s.label_is ∙ b;
-  };
-  after = λ k h. s.after k h ∙ apart k (λ z. omega (arith, r.1));
-}
-  where
-    apart : (j : ℕ) → (j ≡ get_or run 16 0 → ⊥) → get_or (set run (get_or run 16 0) f.link) j 0 ≡ get_or run j 0
-    apart j h = get_or-set_other run (get_or run 16 0) j f.link 0 h

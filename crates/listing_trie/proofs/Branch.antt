@@ -6,7 +6,7 @@ use mathlib.Core.List.{List, ◌∷◌}
 use mathlib.Core.Option.{Option}
 use native.Mathlib.Omega.{arith}
 use lib.IntN.{ℤ}
-use lib.ListN.{length, get_or}
+use lib.ListN.{length}
 use Rattle.source.specs.Text.{Str}
 use Rattle.source.specs.Types.{Level, Value, bind, ns}
 use Rattle.source.specs.Trees.{PathElem}
@@ -19,19 +19,21 @@ use Rattle.find_tree.specs.Tree.{held}
 use Rattle.find_tree.specs.Links.{row_at}
 use Rattle.find_list.specs.Entries.{shown, outer}
 use Rattle.listing_ask.specs.Ask.{asked}
-use Rattle.listing_output.specs.Path.{Path, BranchAt}
+use Rattle.listing_output.specs.Path.{BranchAt}
+use Rattle.listing_output.specs.declared.run.Path.{Path}
 use Rattle.listing_line.specs.OnPath.{LabelAt}
-use Rattle.listing_output.specs.Run.{Tally, Limits, path_in, tally_in, limits_in, run_size}
+use Rattle.listing_output.specs.declared.run.Tally.{Tally}
+use Rattle.listing_output.specs.declared.run.Limits.{Limits}
+use Rattle.listing_output.specs.declared.run.Run.{Run}
 use Rattle.listing_output.specs.declared.Want.{Want}
 use Rattle.listing_line.specs.SameRun.{SamePath}
-use Rattle.listing_line.proofs.Run.{tally_after, limits_after}
 use Rattle.listing_line.specs.Lines.{CanList, Listed}
 use Rattle.listing_ask.specs.declared.Ask.{Ask}
 use Rattle.listing_annotation.specs.declared.Labelled.{Labelled}
-use Rattle.listing_step.specs.Steps.{PathDown, Entered, PathSet, before_of, left}
+use Rattle.listing_step.specs.Steps.{PathDown, before_of, left}
 use Rattle.listing_step.specs.declared.Before.{Before}
 use Rattle.listing_trie.specs.Runs.{level_of, BranchReady, BranchRuns, TrieReady, TrieRuns, BranchAsked, BranchListed, TrieAsked, TrieListed}
-use Rattle.listing_step.proofs.PathDown.{path_branch_fits, path_down, on_path_down, given, path_set}
+use Rattle.listing_step.proofs.PathDown.{path_branch_fits, path_down, on_path_down}
 use Rattle.memory.proofs.At.{at_of}
 
 -- The trie that a branch of namespaces holds.
@@ -62,14 +64,14 @@ module _ (ws txt : List ℕ) (w : Which) (ℓ : Level) (o : Option Str) (branch 
 
 -- The line of a branch of bindings.
 pub leaf_runs : {ws txt : List ℕ} {rest : Str} {want : Want} {leaf : Bool} {f : Labelled}
-    {run run' flat flat' out out' : List ℕ} → leaf ≡ true
+    {run run' : Run} {flat flat' out out' : List ℕ} → leaf ≡ true
     → Listed ws txt want f run run' flat flat' out out'
-    → BranchListed ws txt rest want leaf run run' flat flat' out out' f (tally_in run').entered
+    → BranchListed ws txt rest want leaf run run' flat flat' out out' f run'.tally.entered
 leaf_runs {ws} {txt} {rest} {want} {leaf} {f} {run} {run'} {flat} {flat'} {out} {out'} e l = record { count = refl; same = l.same; runs = go leaf e }
   where
     go : (z : Bool) → z ≡ true
-        → BranchRuns ws txt want.ask rest (path_in run) (limits_in run) want.matched (tally_in run)
-        (tally_in run') flat flat' out out' z f.link f.label
+        → BranchRuns ws txt want.ask rest run.path run.limits want.matched run.tally
+        run'.tally flat flat' out out' z f.link f.label
     go false e = absurd (true≢false (sym e))
     go true e = record {
       goes = λ path x o n on st sh dp.
@@ -100,15 +102,15 @@ module _ {ws txt : List ℕ} {ask : Ask} {rest : Str} {p : Path} {lim : Limits} 
           go false e b l = (b, l)
           go true e b l = absurd (true≢false e)
 
-      pub below_ready : (length p.links ≡ run_size) × (p.n < 16) × (p.len ≤ 544)
-      below_ready = let ok = r.ready.path_ok in (ok.sized, omega (arith, r.room e), omega (arith, ok.short, ok.few))
+      pub below_ready : (p.n < 16) × (p.len ≤ 544)
+      below_ready = let ok = r.ready.path_ok in (omega (arith, r.room e), omega (arith, ok.short, ok.few))
 
       module _ {longer : Path} {child : ℕ} (d : PathDown ws p branch label longer)
           (c : child ≡ trie_link (record_at ws branch)) where
         pub child_ready : TrieReady ws txt ask rest longer lim child
         child_ready = record {
           ready = record {
-            path_ok = path_down r.ready.path_ok below_ready.1 space_at.0 d space_at.1;
+            path_ok = path_down r.ready.path_ok below_ready.0 space_at.0 d space_at.1;
             ends = r.ready.ends;
             short = r.ready.short;
             small = r.ready.small;
@@ -129,12 +131,12 @@ module _ {ws txt : List ℕ} {ask : Ask} {rest : Str} {p : Path} {lim : Limits} 
               goes = λ path x o n on st sh dp.
                   let v : x.1 ≡ what (asked ask) ws txt child trieˢ =
                   shown_value ws txt (asked ask) ns o branch label x sh ∙ child_reads space_at.0 ∙ rw (← c) in
-                  rw v (runs.goes (x.0 ∷ path) n (on_path_down r.ready.path_ok below_ready.1 space_at.0 d path x o on sh)
+                  rw v (runs.goes (x.0 ∷ path) n (on_path_down r.ready.path_ok below_ready.0 space_at.0 d path x o on sh)
                   (st x.0 (shown_prefix ws txt (asked ask) ns o branch label x sh)) (rw v at (dp refl)));
             }
 
 -- A line can be listed.
-pub line_ready : {ws txt : List ℕ} {rest : Str} {want : Want} {leaf : Bool} {f : Labelled} {run : List ℕ}
+pub line_ready : {ws txt : List ℕ} {rest : Str} {want : Want} {leaf : Bool} {f : Labelled} {run : Run}
     → BranchAsked ws txt rest want leaf run f
     → leaf ≡ true → CanList ws txt want f run
 line_ready r e = record {
@@ -146,44 +148,27 @@ line_ready r e = record {
 }
 
 -- A namespace is entered, listed and left.
-module _ {ws txt : List ℕ} {rest : Str} {want : Want} {f : Labelled} {run run₁ : List ℕ} {child : ℕ}
-    (r : BranchAsked ws txt rest want false run f) (d : Entered ws f run run₁)
+module _ {ws txt : List ℕ} {rest : Str} {want : Want} {f : Labelled} {run : Run} {p : Path} {child : ℕ}
+    (r : BranchAsked ws txt rest want false run f) (d : PathDown ws run.path f.link f.label p)
     (c : child ≡ trie_link (record_at ws f.link)) where
-  pub namespace_ready : TrieAsked ws txt rest want run₁ child
-  namespace_ready = record {
-    can = rw (limits_after run run₁ d.after) (child_ready r.can refl d.down c);
-    told = r.told;
-  }
+  -- The run along another path.
+  abbrev pub along : Run → Path → Run
+  along run p = record { path = p; tally = run.tally; limits = run.limits }
 
-  module _ {run₂ flat flat' out out' : List ℕ} {e : ℕ}
-      (t : TrieListed ws txt rest want run₁ run₂ flat flat' out out' child e) where
-    pub namespace_sized : length run₂ ≡ run_size
-    namespace_sized = t.same.size ∙ d.down.size ∙ r.can.ready.path_ok.sized
+  pub namespace_ready : TrieAsked ws txt rest want (along run p) child
+  namespace_ready = record { can = child_ready r.can refl d c; told = r.told }
 
-    -- The run as its path is set again.
-    abbrev back : List ℕ
-    back = given run₂ (get_or run 16 0) (get_or run 17 0) (get_or run 18 0)
-
-    set_back : PathSet run₂ back (get_or run 16 0) (get_or run 17 0) (get_or run 18 0)
-    set_back = path_set run₂ (get_or run 16 0) (get_or run 17 0) (get_or run 18 0) namespace_sized
-
-    path_back : SamePath run back
+  module _ {run₂ : Run} {flat flat' out out' : List ℕ} {e : ℕ}
+      (t : TrieListed ws txt rest want (along run p) run₂ flat flat' out out' child e) where
+    path_back : SamePath run (along run₂ (left run₂.path (before_of run.path)))
     path_back = record {
-      size = set_back.size ∙ t.same.size ∙ d.down.size;
-      links = λ j h. set_back.links j (omega (arith, r.can.ready.path_ok.few)) ∙ t.same.links j (omega (arith, d.down.count)) ∙ d.down.before j h;
-      count = set_back.count;
-      len_is = set_back.len_is;
-      label_is = set_back.label_is;
-      limits_same = limits_after run₂ back set_back.after ∙ t.same.limits_same ∙ limits_after run run₁ d.after;
+      links = λ j h. t.same.links j (omega (arith, d.count)) ∙ d.before j h;
+      count = refl;
+      len_is = refl;
+      label_is = refl;
+      limits_same = t.same.limits_same;
     }
 
-    pub namespace_runs : {b : Before} {run₃ : List ℕ} → b ≡ before_of run → run₃ ≡ left run₂ b
-        → BranchListed ws txt rest want false run run₃ flat flat' out out' f e
-    unfolding left
-    namespace_runs h k = rw (k, h) (record {
-      count = t.count ∙ sym (ap (λ z. z.entered) (tally_after run₂ back set_back.after));
-      same = path_back;
-      runs =
-          let k = rw (limits_after run run₁ d.after, tally_after run run₁ d.after) at t.runs in
-          space_runs r.can refl d.down c (rw (tally_after run₂ back set_back.after) k);
-    })
+    pub namespace_runs : {b : Before} {p' : Path} → b ≡ before_of run.path → p' ≡ left run₂.path b
+        → BranchListed ws txt rest want false run (along run₂ p') flat flat' out out' f e
+    namespace_runs h k = rw (k, h) (record { count = t.count; same = path_back; runs = space_runs r.can refl d c t.runs })

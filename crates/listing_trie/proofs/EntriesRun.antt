@@ -15,9 +15,10 @@ use Rattle.source.specs.Shared.{Allˡ}
 use Rattle.memory.specs.Layout.{Item}
 use Rattle.find_list.specs.Entries.{Entry, shown, outer}
 use Rattle.listing_ask.specs.Ask.{asked}
-use Rattle.listing_output.specs.Path.{Path}
+use Rattle.listing_output.specs.declared.run.Path.{Path}
 use Rattle.listing_line.specs.OnPath.{OnPath}
-use Rattle.listing_output.specs.Run.{Tally, Limits}
+use Rattle.listing_output.specs.declared.run.Tally.{Tally}
+use Rattle.listing_output.specs.declared.run.Limits.{Limits}
 use Rattle.listing_line.specs.Goes.{Goes}
 use Rattle.listing_ask.specs.declared.Ask.{Ask}
 use Rattle.listing_line.proofs.Goes.{goes_none, goes_then, goes_spent}

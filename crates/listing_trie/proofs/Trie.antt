@@ -1,6 +1,6 @@
 -- list_trie: the trie is entered, then its bindings are listed, then its namespaces.
 use Prim.Native.Nat.{ℕ, zero, suc, ◌+◌, ◌*◌, ◌<◌, ◌≤◌}
-use mathlib.Core.Path.{◌≡◌, refl, sym, ap, ◌∙◌}
+use mathlib.Core.Path.{◌≡◌, refl, ap, ◌∙◌}
 use mathlib.Core.Bool.{Bool, true, false, true≢false}
 use mathlib.Core.List.{List, []}
 use mathlib.Core.Logic.{◌⊎◌, inl, inr}
@@ -8,9 +8,9 @@ use native.Mathlib.Omega.{arith}
 use lib.Dec.{ltb}
 use lib.IntN.{ℤ}
 use borrow.Author.Tests.{ltb-true, ltb-false}
-use lib.ListN.{length, get_or, set, take, drop, length-drop}
+use lib.ListN.{length, take, drop, length-drop}
 use Rattle.source.specs.Text.{Str, segments, ends_in_dot}
-use Rattle.source.specs.Types.{Level, Value, NameList, trie, ns, bindings, namespaces}
+use Rattle.source.specs.Types.{Level, Value, NameList, trie, ns, namespaces}
 use Rattle.source.specs.Terms.{depth, depth_names}
 use Rattle.source.specs.Listing.{PathOf, NSTNone, matching_values, names_find_rev_first}
 use Rattle.source.specs.Calls.{output_text}
@@ -22,14 +22,16 @@ use Rattle.memory.specs.Read.{ReadTrie}
 use Rattle.memory.specs.declared.Trie.{Trie}
 use Rattle.memory.proofs.Tries.{lists_seen, bindings_at, namespaces_at, bindings_read, namespaces_read}
 use Rattle.listing_ask.specs.Ask.{asked}
-use Rattle.listing_output.specs.Path.{Path}
+use Rattle.listing_output.specs.declared.run.Path.{Path}
 use Rattle.listing_line.specs.OnPath.{OnPath}
-use Rattle.listing_output.specs.Run.{Tally, Limits, path_in, tally_in, limits_in}
+use Rattle.listing_output.specs.declared.run.Tally.{Tally}
+use Rattle.listing_output.specs.declared.run.Limits.{Limits}
+use Rattle.listing_output.specs.declared.run.Run.{Run}
 use Rattle.listing_output.specs.declared.Want.{Want}
 use Rattle.listing_line.specs.Goes.{Result, Past, Shows, Goes}
 use Rattle.listing_line.specs.SameRun.{SamePath}
 use Rattle.listing_ask.specs.declared.Ask.{Ask}
-use Rattle.listing_line.proofs.Run.{path_then, same_set, tally_entered}
+use Rattle.listing_line.proofs.Run.{path_then, same_tally, counting}
 use Rattle.listing_output.proofs.Written.{written_none}
 use Rattle.listing_line.proofs.Goes.{goes_none, goes_then, goes_past}
 use Rattle.listing_step.specs.Steps.{Matching, Cuts, begun}
@@ -41,10 +43,6 @@ use Rattle.listing_trie.proofs.Runs.{list_ready_at, list_runs_at}
 use Rattle.listing_trie.proofs.TrieGives.{once, bind_entered, trie_gives_is}
 use Rattle.memory.proofs.At.{at_fits}
 
--- One more trie entered.
-abbrev pub inside : Tally → Tally
-inside a = record { entered = a.entered + 1; lines = a.lines; bytes = a.bytes }
-
 -- Bindings are not searched while more than one segment is left.
 found_none : {A : Type 0} {ℓ : Level} (nl : NameList A ℓ) → found nl NSTNone ≡ []
 unfolding found names_find_rev_first matching_values merge_increasing_lists_rev merge_nonempty nonempty
@@ -53,7 +51,7 @@ found_none nl = refl
 module _ {w : Which} {ws txt : List ℕ} {lim : Limits} where
   -- A trie is entered within the budget.
   goes_once : (a : Tally) (flat out : List ℕ) → a.entered < lim.budget
-      → Goes w ws txt lim a (inside a) flat flat out out once
+      → Goes w ws txt lim a (begun a) flat flat out out once
   unfolding output_text
   goes_once a flat out h = record {
     flat_size = refl;
@@ -145,7 +143,7 @@ module _ {ws txt : List ℕ} {ask : Ask} {query : Str} {p : Path} {lim : Limits}
     -- Both lists, or where more segments are left only the namespaces.
     module _ {a : Tally} (h : a.entered < lim.budget) where
       pub trie_both : {m e : Tally} {flat flat₁ flat₂ out out₁ out₂ : List ℕ} → length query ≤ c.next
-          → ListRuns ws txt ask (drop c.next query) p lim c.want.matched (inside a) m flat flat₁ out out₁ true
+          → ListRuns ws txt ask (drop c.next query) p lim c.want.matched (begun a) m flat flat₁ out out₁ true
           tr₂.bindings (take c.len query)
           → ListRuns ws txt ask (drop c.next query) p lim c.want.matched m e flat₁ flat₂ out₁ out₂ false
           tr₂.namespaces (take c.len query)
@@ -172,7 +170,7 @@ module _ {ws txt : List ℕ} {ask : Ask} {query : Str} {p : Path} {lim : Limits}
               (n.goes path _ cut.prefix_is k on (rw cut.rest st) cut.asks (λ z. omega (arith, deep)))))
 
       pub trie_spaces : {e : Tally} {flat flat₂ out out₂ : List ℕ} → c.next < length query
-          → ListRuns ws txt ask (drop c.next query) p lim c.want.matched (inside a) e flat flat₂ out out₂ false
+          → ListRuns ws txt ask (drop c.next query) p lim c.want.matched (begun a) e flat flat₂ out out₂ false
           tr₂.namespaces (take c.len query)
           → TrieRuns ws txt ask query p lim matched a e flat flat₂ out out₂ trie_link
       unfolding elements_give
@@ -194,12 +192,12 @@ module _ {ws txt : List ℕ} {ask : Ask} {query : Str} {p : Path} {lim : Limits}
                 found_none,
               )
               (goes_then (goes_once a flat out h)
-              (goes_then (goes_none (inside a) flat out)
+              (goes_then (goes_none (begun a) flat out)
               (n.goes path _ cut.prefix_is k on (rw cut.rest st) cut.asks (λ z. omega (arith, deep)))))
 
       -- Where lines or bytes are past the limits the bindings need no counting.
       pub trie_past : {e : Tally} {flat flat₂ out out₂ : List ℕ} → Past lim a.lines a.bytes
-          → ListRuns ws txt ask (drop c.next query) p lim c.want.matched (inside a) e flat flat₂ out out₂ false
+          → ListRuns ws txt ask (drop c.next query) p lim c.want.matched (begun a) e flat flat₂ out out₂ false
           tr₂.namespaces (take c.len query)
           → TrieRuns ws txt ask query p lim matched a e flat flat₂ out out₂ trie_link
       trie_past {e} {flat} {flat₂} {out} {out₂} past n = record { goes = λ path k on mt d. go path k on mt d }
@@ -223,29 +221,27 @@ module _ {ws txt : List ℕ} {ask : Ask} {query : Str} {p : Path} {lim : Limits}
 
 -- ---- The lent run
 
-module _ {ws txt : List ℕ} {query : Str} {want : Want} {run : List ℕ} {x : ℕ}
+module _ {ws txt : List ℕ} {query : Str} {want : Want} {run : Run} {x : ℕ}
     (r : TrieAsked ws txt query want run x) where
-  pub trie_spent : {flat out : List ℕ} → get_or run 22 0 ≤ get_or run 19 0
-      → TrieListed ws txt query want run (set run 19 (get_or run 22 0 + 1)) flat flat out out x (get_or run 22 0 + 1)
+  pub trie_spent : {flat out : List ℕ} → run.limits.budget ≤ run.tally.entered
+      → TrieListed ws txt query want run (counting run (record { entered = run.limits.budget + 1; lines = run.tally.lines; bytes = run.tally.bytes }))
+      flat flat out out x (run.limits.budget + 1)
   trie_spent h = record {
-    count = sym (ap (λ z. z.entered) (tally_entered run (get_or run 22 0 + 1) r.can.ready.path_ok.sized));
-    same = same_set run 19 (get_or run 22 0 + 1) r.can.ready.path_ok.few (omega arith) (omega arith);
-    runs = rw (tally_entered run (get_or run 22 0 + 1) r.can.ready.path_ok.sized) (trie_over r.can h);
+    count = refl;
+    same = same_tally run _;
+    runs = trie_over r.can h;
   }
 
-  module _ {tr : Trie} (seen : ReadTrie ws x tr) {c : Cut} (cut : Cuts query (get_or run 17 0) want c)
-      (h : get_or run 19 0 < get_or run 22 0) where
+  module _ {tr : Trie} (seen : ReadTrie ws x tr) {c : Cut} (cut : Cuts query run.path.len want c)
+      (h : run.tally.entered < run.limits.budget) where
     abbrev pub down : Bool → Search
-    down leaf = record { want = c.want; leaf = leaf; len = c.len; next = c.next }
+    down leaf = record { cut = c; leaf = leaf }
 
-    abbrev pub run₁ : List ℕ
-    run₁ = begun run
+    abbrev pub run₁ : Run
+    run₁ = counting run (begun run.tally)
 
     same₁ : SamePath run run₁
-    same₁ = same_set run 19 (get_or run 19 0 + 1) r.can.ready.path_ok.few (omega arith) (omega arith)
-
-    tally₁ : tally_in run₁ ≡ inside (tally_in run)
-    tally₁ = tally_entered run (get_or run 19 0 + 1) r.can.ready.path_ok.sized
+    same₁ = same_tally run _
 
     place_ok : (leaf : Bool) → PlaceOk query (down leaf)
     place_ok leaf = record { len_inside = omega (arith, cut.within, cut.inside); next_inside = cut.inside; told = cut.told r.told }
@@ -253,39 +249,39 @@ module _ {ws txt : List ℕ} {query : Str} {want : Want} {run : List ℕ} {x : �
     pub bindings_asked : ListAsked ws txt query (down true) run₁ tr.bindings
     bindings_asked = record { place_ok = place_ok true; can = list_ready_at same₁ (rw cut.ask_same (trie_bindings_ready r.can seen cut)) }
 
-    pub namespaces_asked : {run₂ : List ℕ} → SamePath run₁ run₂
+    pub namespaces_asked : {run₂ : Run} → SamePath run₁ run₂
         → ListAsked ws txt query (down false) run₂ tr.namespaces
     namespaces_asked s = record {
       place_ok = place_ok false;
       can = list_ready_at (path_then same₁ s) (rw cut.ask_same (trie_namespaces_ready r.can seen cut));
     }
 
-    module _ {run₂ flat flat₁ out out₁ : List ℕ} where
-      pub trie_few : (c.next < length query) ⊎ Past (limits_in run) (get_or run 20 0) (get_or run 21 0)
+    module _ {run₂ : Run} {flat flat₁ out out₁ : List ℕ} where
+      pub trie_few : (c.next < length query) ⊎ Past run.limits run.tally.lines run.tally.bytes
           → ListListed ws txt query (down false) run₁ run₂ flat flat₁ out out₁ tr.namespaces
-          → TrieListed ws txt query want run run₂ flat flat₁ out out₁ x (tally_in run₂).entered
+          → TrieListed ws txt query want run run₂ flat flat₁ out out₁ x run₂.tally.entered
       trie_few skip n =
           record {
             count = refl;
             same = path_then same₁ n.same;
-            runs = go skip (rw (cut.ask_same, tally₁) at (list_runs_at same₁ n.runs));
+            runs = go skip (rw cut.ask_same at (list_runs_at same₁ n.runs));
           }
         where
-          go : (c.next < length query) ⊎ Past (limits_in run) (get_or run 20 0) (get_or run 21 0)
-              → ListRuns ws txt want.ask (drop c.next query) (path_in run) (limits_in run) c.want.matched
-              (inside (tally_in run)) (tally_in run₂) flat flat₁ out out₁ false tr.namespaces (take c.len query)
-              → TrieRuns ws txt want.ask query (path_in run) (limits_in run) want.matched (tally_in run)
-              (tally_in run₂) flat flat₁ out out₁ x
+          go : (c.next < length query) ⊎ Past run.limits run.tally.lines run.tally.bytes
+              → ListRuns ws txt want.ask (drop c.next query) run.path run.limits c.want.matched
+              (begun run.tally) run₂.tally flat flat₁ out out₁ false tr.namespaces (take c.len query)
+              → TrieRuns ws txt want.ask query run.path run.limits want.matched run.tally
+              run₂.tally flat flat₁ out out₁ x
           go (inl more) m = trie_spaces r.can seen cut h more m
           go (inr past) m = trie_past r.can seen cut h past m
 
-      pub trie_all : {run₃ flat₂ out₂ : List ℕ} → length query ≤ c.next
+      pub trie_all : {run₃ : Run} {flat₂ out₂ : List ℕ} → length query ≤ c.next
           → ListListed ws txt query (down true) run₁ run₂ flat flat₁ out out₁ tr.bindings
           → ListListed ws txt query (down false) run₂ run₃ flat₁ flat₂ out₁ out₂ tr.namespaces
-          → TrieListed ws txt query want run run₃ flat flat₂ out out₂ x (tally_in run₃).entered
+          → TrieListed ws txt query want run run₃ flat flat₂ out out₂ x run₃.tally.entered
       trie_all last b n = record {
         count = refl;
         same = path_then same₁ (path_then b.same n.same);
-        runs = trie_both r.can seen cut h last (rw (cut.ask_same, tally₁) at (list_runs_at same₁ b.runs))
+        runs = trie_both r.can seen cut h last (rw cut.ask_same at (list_runs_at same₁ b.runs))
             (rw cut.ask_same at (list_runs_at (path_then same₁ b.same) n.runs));
       }

@@ -16,10 +16,14 @@ use Rattle.find_tree.specs.Tree.{held}
 use Rattle.find_tree.specs.Links.{matches}
 use Rattle.find_list.specs.Entries.{Entry, shown, outer, Asks}
 use Rattle.listing_ask.specs.Ask.{asked, line_for}
-use Rattle.listing_output.specs.Path.{Path, BranchAt}
+use Rattle.listing_output.specs.Path.{BranchAt}
+use Rattle.listing_output.specs.declared.run.Path.{Path}
 use Rattle.listing_line.specs.OnPath.{LabelAt, PathOk, OnPath}
 use Rattle.listing_line.specs.Goes.{Result, ◌⊕◌, Goes}
-use Rattle.listing_output.specs.Run.{Tally, Limits, Small, path_in, tally_in, limits_in, Told}
+use Rattle.listing_output.specs.Run.{Small, Told}
+use Rattle.listing_output.specs.declared.run.Tally.{Tally}
+use Rattle.listing_output.specs.declared.run.Limits.{Limits}
+use Rattle.listing_output.specs.declared.run.Run.{Run}
 use Rattle.listing_output.specs.declared.Want.{Want}
 use Rattle.listing_line.specs.Lines.{only}
 use Rattle.listing_line.specs.SameRun.{SamePath}
@@ -131,55 +135,55 @@ module _ (ws txt : List ℕ) (ask : Ask) (rest : Str) (p : Path) (lim : Limits) 
 
 -- ---- The contracts: of a query that is cut, and the lent run; e is what is returned, the tries entered so far
 
-module _ (ws txt : List ℕ) (rest : Str) (want : Want) (leaf : Bool) (run : List ℕ) where
+module _ (ws txt : List ℕ) (rest : Str) (want : Want) (leaf : Bool) (run : Run) where
   pub record BranchAsked (f : Labelled) : Type 0 where
-    pub can : BranchReady ws txt want.ask rest (path_in run) (limits_in run) leaf f.link f.label
+    pub can : BranchReady ws txt want.ask rest run.path run.limits leaf f.link f.label
     pub told : Told want.matched
 
-  pub record BranchListed (run' flat flat' out out' : List ℕ) (f : Labelled) (e : ℕ) : Type 0 where
-    pub count : e ≡ (tally_in run').entered
+  pub record BranchListed (run' : Run) (flat flat' out out' : List ℕ) (f : Labelled) (e : ℕ) : Type 0 where
+    pub count : e ≡ run'.tally.entered
     pub same : SamePath run run'
-    pub runs : BranchRuns ws txt want.ask rest (path_in run) (limits_in run) want.matched
-        (tally_in run) (tally_in run') flat flat' out out' leaf f.link f.label
+    pub runs : BranchRuns ws txt want.ask rest run.path run.limits want.matched
+        run.tally run'.tally flat flat' out out' leaf f.link f.label
 
 -- The query is cut within, and the match length is one.
 pub record PlaceOk (query : Str) (place : Search) : Type 0 where
-  pub len_inside : place.len ≤ length query
-  pub next_inside : place.next ≤ length query
-  pub told : Told place.want.matched
+  pub len_inside : place.cut.len ≤ length query
+  pub next_inside : place.cut.next ≤ length query
+  pub told : Told place.cut.want.matched
 
-module _ (ws txt : List ℕ) (query : Str) (place : Search) (run : List ℕ) where
+module _ (ws txt : List ℕ) (query : Str) (place : Search) (run : Run) where
   pub record TreeAsked (f : Labelled) : Type 0 where
     pub place_ok : PlaceOk query place
-    pub can : TreeReady ws txt place.want.ask (drop place.next query) (path_in run) (limits_in run) place.leaf
-        f.link f.label (take place.len query)
+    pub can : TreeReady ws txt place.cut.want.ask (drop place.cut.next query) run.path run.limits place.leaf
+        f.link f.label (take place.cut.len query)
 
   pub record ListAsked (x : ℕ) : Type 0 where
     pub place_ok : PlaceOk query place
-    pub can : ListReady ws txt place.want.ask (drop place.next query) (path_in run) (limits_in run)
+    pub can : ListReady ws txt place.cut.want.ask (drop place.cut.next query) run.path run.limits
         place.leaf x
 
-  module _ (run' flat flat' out out' : List ℕ) where
+  module _ (run' : Run) (flat flat' out out' : List ℕ) where
     pub record TreeListed (f : Labelled) : Type 0 where
       pub same : SamePath run run'
-      pub runs : EntriesRun ws txt place.want.ask (drop place.next query) (path_in run) (limits_in run)
-          place.want.matched
-          (tally_in run) (tally_in run') flat flat' out out' place.leaf
-          (tree_entries ws txt f.link f.label (take place.len query))
+      pub runs : EntriesRun ws txt place.cut.want.ask (drop place.cut.next query) run.path run.limits
+          place.cut.want.matched
+          run.tally run'.tally flat flat' out out' place.leaf
+          (tree_entries ws txt f.link f.label (take place.cut.len query))
 
     pub record ListListed (x : ℕ) : Type 0 where
       pub same : SamePath run run'
-      pub runs : ListRuns ws txt place.want.ask (drop place.next query) (path_in run) (limits_in run)
-          place.want.matched
-          (tally_in run) (tally_in run') flat flat' out out' place.leaf x (take place.len query)
+      pub runs : ListRuns ws txt place.cut.want.ask (drop place.cut.next query) run.path run.limits
+          place.cut.want.matched
+          run.tally run'.tally flat flat' out out' place.leaf x (take place.cut.len query)
 
-module _ (ws txt : List ℕ) (query : Str) (want : Want) (run : List ℕ) where
+module _ (ws txt : List ℕ) (query : Str) (want : Want) (run : Run) where
   pub record TrieAsked (x : ℕ) : Type 0 where
-    pub can : TrieReady ws txt want.ask query (path_in run) (limits_in run) x
+    pub can : TrieReady ws txt want.ask query run.path run.limits x
     pub told : Told want.matched
 
-  pub record TrieListed (run' flat flat' out out' : List ℕ) (x e : ℕ) : Type 0 where
-    pub count : e ≡ (tally_in run').entered
+  pub record TrieListed (run' : Run) (flat flat' out out' : List ℕ) (x e : ℕ) : Type 0 where
+    pub count : e ≡ run'.tally.entered
     pub same : SamePath run run'
-    pub runs : TrieRuns ws txt want.ask query (path_in run) (limits_in run) want.matched (tally_in run)
-        (tally_in run') flat flat' out out' x
+    pub runs : TrieRuns ws txt want.ask query run.path run.limits want.matched run.tally
+        run'.tally flat flat' out out' x

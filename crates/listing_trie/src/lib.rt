@@ -7,17 +7,16 @@ ghost use Rattle.std.specs.Prelude.{true, false, ◌+◌, ◌<◌};
 ghost use Rattle.listing_trie.specs.Runs.{BranchAsked, BranchListed, TreeAsked, TreeListed, ListAsked, ListListed, TrieAsked, TrieListed};
 
 use listing_annotation::Labelled;
-use listing_output::Want;
+use listing_output::{Run, Want};
+use listing_step::Cut;
 use match_marks::Notes;
 use merge::Cursor;
 
-// Where a run stands in a trie: what is wanted, whether the list is of bindings, and where the query is cut.
+// Where a run stands in a trie: where the query is cut, and whether the list is of bindings.
 #[derive(Clone, Copy)]
 struct Search {
-    want: Want,
+    cut: Cut,
     leaf: bool,
-    len: usize,
-    next: usize,
 }
 
 // What a found namespace gives, its listing: the path is that of the namespace meanwhile.
@@ -28,7 +27,7 @@ fn list_below(
     rest: &[u8],
     want: Want,
     found: Labelled,
-    run: &mut [usize; listing_output::RUN],
+    run: &mut Run,
     flat: &mut [u8],
     out: &mut [u8],
 ) -> usize
@@ -37,9 +36,9 @@ fn list_below(
         run.old run.new flat.old flat.new out.old out.new found result }
 {
     let child = memory_access::held_of(words, found.link);
-    let before = listing_step::enter(words, found, run);
+    let before = listing_step::enter(words, found, &mut run.path);
     let entered = list_trie(words, text, rest, want, child, run, flat, out);
-    listing_step::leave(run, before);
+    listing_step::leave(&mut run.path, before);
     entered
 }
 
@@ -51,18 +50,18 @@ fn list_branch(
     rest: &[u8],
     place: Search,
     found: Labelled,
-    run: &mut [usize; listing_output::RUN],
+    run: &mut Run,
     flat: &mut [u8],
     out: &mut [u8],
 ) -> usize
-    requires { BranchAsked words.now text.now rest.now place.want place.leaf run.old found }
-    ensures { BranchListed words.now text.now rest.now place.want place.leaf
+    requires { BranchAsked words.now text.now rest.now place.cut.want place.leaf run.old found }
+    ensures { BranchListed words.now text.now rest.now place.cut.want place.leaf
         run.old run.new flat.old flat.new out.old out.new found result }
 {
-    let want = place.want;
+    let want = place.cut.want;
     if place.leaf {
         listing_line::line(words, text, found, run, want, flat, out);
-        return run[listing_output::ENTERED];
+        return run.tally.entered;
     }
     list_below(words, text, rest, want, found, run, flat, out)
 }
@@ -75,7 +74,7 @@ fn list_tree(
     query: &[u8],
     place: Search,
     found: Labelled,
-    run: &mut [usize; listing_output::RUN],
+    run: &mut Run,
     flat: &mut [u8],
     out: &mut [u8],
 )
@@ -83,9 +82,9 @@ fn list_tree(
     ensures { TreeListed words.now text.now query.now place run.old run.new
         flat.old flat.new out.old out.new found }
 {
-    let budget = run[listing_output::BUDGET];
-    let len = place.len;
-    let rest = place.next;
+    let budget = run.limits.budget;
+    let len = place.cut.len;
+    let rest = place.cut.next;
     let root = found.link;
     let mut notes = Notes::new();
     let mut next = match_walk::first_match(words, text, root, &query[0..len], &mut notes);
@@ -111,7 +110,7 @@ fn list_merged(
     query: &[u8],
     place: Search,
     list: u32,
-    run: &mut [usize; listing_output::RUN],
+    run: &mut Run,
     flat: &mut [u8],
     out: &mut [u8],
 )
@@ -119,9 +118,9 @@ fn list_merged(
     ensures { ListListed words.now text.now query.now place run.old run.new
         flat.old flat.new out.old out.new list }
 {
-    let budget = run[listing_output::BUDGET];
-    let len = place.len;
-    let rest = place.next;
+    let budget = run.limits.budget;
+    let len = place.cut.len;
+    let rest = place.cut.next;
     let mut roots = [0; merge::CELLS];
     let mut heads = [0; merge::CELLS];
     let mut beginnings = [0; merge::CELLS];
@@ -190,7 +189,7 @@ fn list_names(
     query: &[u8],
     place: Search,
     list: u32,
-    run: &mut [usize; listing_output::RUN],
+    run: &mut Run,
     flat: &mut [u8],
     out: &mut [u8],
 )
@@ -222,7 +221,7 @@ pub fn list_trie(
     query: &[u8],
     want: Want,
     trie: u32,
-    run: &mut [usize; listing_output::RUN],
+    run: &mut Run,
     flat: &mut [u8],
     out: &mut [u8],
 ) -> usize
@@ -230,37 +229,22 @@ pub fn list_trie(
     ensures { TrieListed words.now text.now query.now want run.old run.new
         flat.old flat.new out.old out.new trie result }
 {
-    let budget = run[listing_output::BUDGET];
-    let before = run[listing_output::ENTERED];
-    let base = run[listing_output::LENGTH];
-    if budget <= before {
-        run[listing_output::ENTERED] = budget + 1;
+    let budget = run.limits.budget;
+    if budget <= run.tally.entered {
+        run.tally.entered = budget + 1;
         return budget + 1;
     }
     let t = memory_access::trie_of(words, trie);
-    let c = listing_step::cut_query(query, base, want);
-    let skip = listing_step::skips_bindings(run, query.len(), c.next);
-    listing_step::begin(run);
-    let here = c.want;
-    let len = c.len;
-    let next = c.next;
-    let namespaces = Search {
-        want: here,
-        leaf: false,
-        len: len,
-        next: next,
-    };
+    let cut = listing_step::cut_query(query, run.path.len, want);
+    let skip = listing_step::skips_bindings(run, query.len(), cut.next);
+    listing_step::begin(&mut run.tally);
+    let namespaces = Search { cut, leaf: false };
     if skip {
         list_names(words, text, query, namespaces, t.namespaces, run, flat, out);
-        return run[listing_output::ENTERED];
+        return run.tally.entered;
     }
-    let bindings = Search {
-        want: here,
-        leaf: true,
-        len: len,
-        next: next,
-    };
+    let bindings = Search { cut, leaf: true };
     list_names(words, text, query, bindings, t.bindings, run, flat, out);
     list_names(words, text, query, namespaces, t.namespaces, run, flat, out);
-    run[listing_output::ENTERED]
+    run.tally.entered
 }

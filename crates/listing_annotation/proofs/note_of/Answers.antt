@@ -1,16 +1,11 @@
 -- `listing_annotation::note_of` meets its contract.
 use mathlib.Core.Path.{◌∙◌, sym}
-use native.Mathlib.Omega.{arith}
 use Rattle.listing_annotation.proofs.NoteAt.{note_none, note_some}
 use Rattle.listing_annotation.proofs.note_of.Goals as goal
 
 pub returns-then-label-eq0 : goal.returns-then-label-eq0
 returns-then-label-eq0 c =
     let a = c.args in sym (note_none a.words.now a.text.now a.label c.if-label-eq0.true)
-
-pub key_of-requires : goal.key_of-requires
-key_of-requires c =
-    let t = c.requires (omega arith) in record { some = t.some; within = t.within; inside = t.inside }
 
 pub returns : goal.returns
 returns c =

@@ -1,73 +1,35 @@
 -- `listing_output::put_candidate` meets its contract. The loop's invariant: the first keys are written, each with a dot.
+use Rattle.std.proofs.Common.{length-take}
 use Rattle.text.proofs.Laid.{laid_length, laid_more}
-use Rattle.listing_output.proofs.Texts.{joining_none, joining_room, joining_more, joining_done}
+use Rattle.listing_output.proofs.Texts.{link_at, joining_none, joining_room, joining_more, joining_done}
 use native.Mathlib.Omega.{arith}
 use Rattle.listing_output.proofs.put_candidate.Goals as goal
 
-pub loop-i-init : goal.loop-i-init
-loop-i-init c =
+pub loop-link-init : goal.loop-link-init
+loop-link-init c =
     joining_none (omega (arith, c.requires.branch_in_bounds))
 
-pub bounds-run-i : goal.bounds-run-i
-bounds-run-i c =
-    omega (arith, c.requires.path_at.few)
-
-pub overflow_cast-link : goal.overflow_cast-link
-overflow_cast-link c =
-    omega
-    (arith, (c.requires.path_at.each c.loop-i.i c.loop-i-test.true).few)
-
-pub put_key-end-requires : goal.put_key-end-requires
-put_key-end-requires c =
+pub put_key-end-requires-clause-branch_in_bounds : goal.put_key-end-requires-clause-branch_in_bounds
+put_key-end-requires-clause-branch_in_bounds c =
     let pre = c.requires in
-    record {
-      text_at = pre.path_at.each c.loop-i.i c.loop-i-test.true;
-      branch_in_bounds = omega (
-        arith,
-        joining_room c.loop-i.invariant c.loop-i-test.true (omega (arith, pre.path_at.len_is, pre.branch_in_bounds)),
-      );
-    }
+    let k = link_at _ _ _ c.loop-link-test.true in
+    rw k.1 (omega (arith, joining_room c.loop-link.invariant k.0 (omega (arith, pre.path_at.len_is, pre.branch_in_bounds))))
 
 pub bounds-out-end : goal.bounds-out-end
 bounds-out-end c =
-    omega (
-      arith,
-      joining_room c.loop-i.invariant c.loop-i-test.true (omega (arith, c.requires.path_at.len_is, c.requires.branch_in_bounds)),
-      c.put_key-end.ensures.end,
-      laid_length c.put_key-end.ensures,
-    )
-
-pub overflow_add-end : goal.overflow_add-end
-overflow_add-end c =
-    omega (
-      arith,
-      joining_room c.loop-i.invariant c.loop-i-test.true (omega (arith, c.requires.path_at.len_is, c.requires.branch_in_bounds)),
-      c.put_key-end.ensures.end,
-      laid_length c.loop-i.invariant.written,
-    )
-
-pub loop-i-preserved : goal.loop-i-preserved
-loop-i-preserved c =
-    joining_more c.loop-i.invariant c.loop-i-test.true (omega (arith, c.requires.path_at.len_is, c.requires.branch_in_bounds)) c.put_key-end.ensures
-
-pub put_key-requires : goal.put_key-requires
-put_key-requires c =
     let pre = c.requires in
-    record {
-      text_at = pre.text_at;
-      branch_in_bounds = omega (
-        arith,
-        (joining_done c.loop-i.invariant c.loop-i-test.false).end,
-        pre.path_at.len_is,
-        pre.branch_in_bounds,
-        laid_length c.loop-i.invariant.written,
-      );
-    }
+    let k = link_at _ _ _ c.loop-link-test.true in
+    let e = rw k.1 at c.put_key-end.ensures in
+    omega (arith, joining_room c.loop-link.invariant k.0 (omega (arith, pre.path_at.len_is, pre.branch_in_bounds)), e.end, laid_length e)
 
-pub shape_of-out : goal.shape_of-out
-shape_of-out c =
-    laid_length (laid_more c.loop-i.invariant.written c.put_key.ensures)
+pub loop-link-preserved : goal.loop-link-preserved
+loop-link-preserved c =
+    let pre = c.requires in
+    let k = link_at _ _ _ c.loop-link-test.true in
+    joining_more c.loop-link.invariant k.0 (omega (arith, pre.path_at.len_is, pre.branch_in_bounds)) (rw k.1 at c.put_key-end.ensures)
 
 pub returns : goal.returns
 returns c =
-    laid_more (joining_done c.loop-i.invariant c.loop-i-test.false) c.put_key.ensures
+    laid_more
+    (joining_done c.loop-link.invariant (omega (arith, c.loop-link-test.false, c.requires.path_at.few, length-take c.args.path.now.n c.args.path.now.links)))
+    c.put_key.ensures

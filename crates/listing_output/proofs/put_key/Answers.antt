@@ -6,10 +6,6 @@ use Rattle.text.proofs.Laid.{lent_laid, room_left}
 use Rattle.listing_output.proofs.Texts.{text_laid}
 use Rattle.listing_output.proofs.put_key.Goals as goal
 
-pub put_text-requires : goal.put_text-requires
-put_text-requires c =
-    omega (arith, ap length c.key_of-key.ensures, room_left c.args.out.now c.args.at _ c.requires.branch_in_bounds)
-
 pub returns : goal.returns
 returns c =
     lent_laid c.args.at (omega (arith, c.requires.branch_in_bounds))

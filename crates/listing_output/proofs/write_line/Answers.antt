@@ -25,5 +25,5 @@ returns c =
     line_put c.requires.job_ok c.requires.line_fits c.put_candidate-end.ensures c.put_text.ensures
     (c.length_word.ensures
     ∙ ap length_word (to_z-of_z w32 c.args.want.matched
-    (record { sfits = c.struct_told-1.given.1.0.1 }))) c.line_row-row.ensures
+    (record { sfits = omega arith }))) c.line_row-row.ensures
     c.store.ensures

@@ -5,7 +5,7 @@ use Rattle.memory.proofs.At.{at_fits}
 use Rattle.merge.proofs.OneTree.{single_one}
 use Rattle.listing_line.proofs.Run.{same_run}
 use Rattle.listing_step.proofs.Cuts.{front_is}
-use Rattle.listing_trie.proofs.Branch.{leaf_runs, line_ready, branch_named, space_at, below_ready, child_earlier, namespace_ready, namespace_sized}
+use Rattle.listing_trie.proofs.Branch.{leaf_runs, line_ready, branch_named, space_at, below_ready, child_earlier, namespace_ready}
 use Rattle.listing_trie.proofs.Branch.{namespace_runs}
 use Rattle.listing_trie.proofs.Listed.{none_runs, along_earlier, along_tree, along_begins, stepping_first, stepping_branch, stepping_noted, stepping_next}
 use Rattle.listing_trie.proofs.Listed.{stepping_less}
@@ -23,7 +23,7 @@ list_below-held_of-child-requires t c = branch_named c.requires.can
 pub list_below-enter-before-requires : goal.list_below-enter-before-requires
 list_below-enter-before-requires t c = record {
   link_nonzero = branch_named c.requires.can;
-  run_len = below_ready c.requires.can refl;
+  room = below_ready c.requires.can refl;
 }
 
 pub list_below-list_trie-entered-requires : goal.list_below-list_trie-entered-requires
@@ -31,10 +31,6 @@ list_below-list_trie-entered-requires t c = (
   omega (arith, c.held_of-child.ensures, child_earlier (space_at c.requires.can refl).0),
   namespace_ready c.requires c.enter-before.ensures.entered c.held_of-child.ensures,
 )
-
-pub list_below-leave-requires : goal.list_below-leave-requires
-list_below-leave-requires t c =
-    namespace_sized c.requires c.enter-before.ensures.entered c.held_of-child.ensures c.list_trie-entered.ensures
 
 pub list_below-returns : goal.list_below-returns
 list_below-returns t c =
@@ -178,47 +174,46 @@ list_trie-overflow_add-run t c = omega (arith, c.requires.can.ready.small.budget
 pub list_trie-overflow_add-result : goal.list_trie-overflow_add-result
 list_trie-overflow_add-result t c = omega (arith, c.requires.can.ready.small.budget_small)
 
-pub list_trie-returns-then-budget-before : goal.list_trie-returns-then-budget-before
-list_trie-returns-then-budget-before t c = trie_spent c.requires c.if-budget-before.true
+pub list_trie-returns-then-budget-run : goal.list_trie-returns-then-budget-run
+list_trie-returns-then-budget-run t c = trie_spent c.requires c.if-budget-run.true
 
 pub list_trie-trie_of-t-requires : goal.list_trie-trie_of-t-requires
 list_trie-trie_of-t-requires t c = trie_named c.requires.can
 
-pub list_trie-cut_query-c-requires : goal.list_trie-cut_query-c-requires
-list_trie-cut_query-c-requires t c = cut_ready c.requires.can
+pub list_trie-cut_query-cut-requires : goal.list_trie-cut_query-cut-requires
+list_trie-cut_query-cut-requires t c = cut_ready c.requires.can
 
 pub list_trie-begin-requires : goal.list_trie-begin-requires
 list_trie-begin-requires t c =
-    let ready = c.requires.can.ready in
-    (ready.path_ok.sized, omega (arith, c.if-budget-before.false, ready.small.budget_small))
+    omega (arith, c.if-budget-run.false, c.requires.can.ready.small.budget_small)
 
 pub list_trie-list_names-requires : goal.list_trie-list_names-requires
 list_trie-list_names-requires t c = (
-  omega (arith, namespaces_earlier c.requires.can c.trie_of-t.ensures c.cut_query-c.ensures),
-  rw c.begin.ensures (namespaces_asked c.requires c.trie_of-t.ensures c.cut_query-c.ensures (omega (arith, c.if-budget-before.false)) (same_run _)),
+  omega (arith, namespaces_earlier c.requires.can c.trie_of-t.ensures c.cut_query-cut.ensures),
+  rw c.begin.ensures (namespaces_asked c.requires c.trie_of-t.ensures c.cut_query-cut.ensures (omega (arith, c.if-budget-run.false)) (same_run _)),
 )
 
 pub list_trie-returns-then-skip : goal.list_trie-returns-then-skip
 list_trie-returns-then-skip t c =
-    trie_few c.requires c.trie_of-t.ensures c.cut_query-c.ensures
-    (omega (arith, c.if-budget-before.false)) (c.skips_bindings-skip.ensures.when c.if-skip.true)
+    trie_few c.requires c.trie_of-t.ensures c.cut_query-cut.ensures
+    (omega (arith, c.if-budget-run.false)) (c.skips_bindings-skip.ensures.when c.if-skip.true)
     (rw c.begin.ensures at c.list_names.ensures)
 
 pub list_trie-list_names-requires-2 : goal.list_trie-list_names-requires-2
 list_trie-list_names-requires-2 t c = (
-  omega (arith, bindings_earlier c.requires.can c.trie_of-t.ensures c.cut_query-c.ensures),
-  rw c.begin.ensures (bindings_asked c.requires c.trie_of-t.ensures c.cut_query-c.ensures (omega (arith, c.if-budget-before.false))),
+  omega (arith, bindings_earlier c.requires.can c.trie_of-t.ensures c.cut_query-cut.ensures),
+  rw c.begin.ensures (bindings_asked c.requires c.trie_of-t.ensures c.cut_query-cut.ensures (omega (arith, c.if-budget-run.false))),
 )
 
 pub list_trie-list_names-requires-3 : goal.list_trie-list_names-requires-3
 list_trie-list_names-requires-3 t c = (
-  omega (arith, namespaces_earlier c.requires.can c.trie_of-t.ensures c.cut_query-c.ensures),
-  namespaces_asked c.requires c.trie_of-t.ensures c.cut_query-c.ensures (omega (arith, c.if-budget-before.false))
+  omega (arith, namespaces_earlier c.requires.can c.trie_of-t.ensures c.cut_query-cut.ensures),
+  namespaces_asked c.requires c.trie_of-t.ensures c.cut_query-cut.ensures (omega (arith, c.if-budget-run.false))
       (rw c.begin.ensures at c.list_names-2.ensures.same),
 )
 
 pub list_trie-returns : goal.list_trie-returns
 list_trie-returns t c =
-    trie_all c.requires c.trie_of-t.ensures c.cut_query-c.ensures
-    (omega (arith, c.if-budget-before.false)) (c.skips_bindings-skip.ensures.unless c.if-skip.false)
+    trie_all c.requires c.trie_of-t.ensures c.cut_query-cut.ensures
+    (omega (arith, c.if-budget-run.false)) (c.skips_bindings-skip.ensures.unless c.if-skip.false)
     (rw c.begin.ensures at c.list_names-2.ensures) c.list_names-3.ensures

@@ -35,7 +35,7 @@ invariant-list_merged-loop-place l =
 
 abbrev pub decreases-list_merged-loop-place : goal.decreases-list_merged-loop-place
 decreases-list_merged-loop-place l =
-    left_in l.words l.text (take l.place.len l.query)
+    left_in l.words l.text (take l.place.cut.len l.query)
     (state l.roots l.heads l.beginnings l.labels l.child l.next l.turn.n l.turn.root l.turn.last)
 
 abbrev pub invariant-list_tree-loop-next : goal.invariant-list_tree-loop-next
@@ -44,4 +44,4 @@ invariant-list_tree-loop-next l =
 
 abbrev pub decreases-list_tree-loop-next : goal.decreases-list_tree-loop-next
 decreases-list_tree-loop-next l =
-    length (onward l.words l.text (take l.place.len l.query) l.found.link l.next)
+    length (onward l.words l.text (take l.place.cut.len l.query) l.found.link l.next)
