@@ -8,6 +8,11 @@ use lib.Seq.{get_or-set_same, get_or-set_other}
 use Rattle.text.specs.Text.{beginning}
 use Rattle.memory.specs.Layout.{key_at}
 use Rattle.merge_heads.specs.Compare.{Begun, with_beginning}
+use Rattle.merge_heads.specs.declared.Cell.{Cell}
+
+-- A cell without a list.
+abbrev pub empty : Cell
+empty = record { root = 0; label = 0; head = 0; beginning = 0 }
 
 pub head_begun : (ws txt heads beginnings : List ℕ) (c x : ℕ) → c < length heads → c < length beginnings → (j : ℕ)
     → ((j ≡ c → ⊥) → Begun ws txt heads beginnings j)

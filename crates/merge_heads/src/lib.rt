@@ -1,76 +1,81 @@
-// The lists of a merge, at most 96: each is a cell, whose head is a branch's link. How two cells compare.
+// The lists of a merge, at most 96: each has a cell, with a tree, its label and its head, a branch's link. How two cells compare.
 #![tactic(auto)]
 
-ghost use Rattle.std.specs.Prelude.{◌≡◌, ◌<◌, set};
+ghost use Rattle.std.specs.Prelude.{◌≡◌, ◌<◌};
 ghost use Rattle.source.specs.Limits.{heaviest_list};
 ghost use Rattle.source.specs.Text.{string_compare};
-ghost use Rattle.text.specs.Text.{ordering};
 ghost use Rattle.memory.specs.Layout.{key_at};
 ghost use Rattle.memory.specs.Read.{TextIn};
-ghost use Rattle.merge_heads.specs.Compare.{Head, with_beginning, cell_cmp, sign};
+ghost use Rattle.merge_heads.specs.Compare.{heads, beginnings, Head, Begins, cell_cmp, answer};
 
 use std::cmp::Ordering;
+use text::Order;
 
 // How many lists a merge takes, and so how many cells there are. As a cell it is none.
 pub const CELLS: usize = memory::HEAVIEST as usize;
+
+// A list of a merge: a tree and its label, the branch at hand and the beginning of that one's key.
+#[derive(Clone, Copy)]
+pub struct Cell {
+    pub root: u32,
+    pub label: u32,
+    pub head: u32,
+    pub beginning: u64,
+}
+
+// A cell without a list.
+pub const EMPTY: Cell = Cell {
+    root: 0,
+    label: 0,
+    head: 0,
+    beginning: 0,
+};
 
 // Gives a cell the head `branch`, with the beginning of its key.
 pub fn set_head(
     words: &[u32],
     text: &[u8],
-    heads: &mut [u32; CELLS],
-    beginnings: &mut [u64; CELLS],
+    cells: &mut [Cell; CELLS],
     cell: usize,
     branch: u32,
 )
     requires text_in { TextIn words.now text.now branch }
     requires cell_lt_heaviest_list { cell < heaviest_list }
-    ensures { (heads.new ≡ set heads.old cell branch)
-        × (beginnings.new ≡ with_beginning words.now text.now beginnings.old cell branch) }
+    ensures { Begins words.now text.now cells.old cells.new cell branch }
 {
-    heads[cell] = branch;
-    beginnings[cell] = text::beginning(memory_access::key_of(words, text, branch));
+    cells[cell] = Cell {
+        head: branch,
+        beginning: text::beginning(memory_access::key_of(words, text, branch)),
+        ..cells[cell]
+    };
 }
 
 // How the keys of two branches compare.
 fn compare_keys(words: &[u32], text: &[u8], x: u32, y: u32) -> Ordering
     requires text_in { TextIn words.now text.now x }
     requires text_in_2 { TextIn words.now text.now y }
-    ensures { ordering result ≡ string_compare (key_at words.now text.now x) (key_at words.now text.now y) }
+    ensures { answer result ≡ string_compare (key_at words.now text.now x) (key_at words.now text.now y) }
 {
     let c = text::string_compare(
         memory_access::key_of(words, text, x),
         memory_access::key_of(words, text, y),
     );
-    c.order
+    match c.order {
+        Order::Less => Ordering::Less,
+        Order::Same => Ordering::Equal,
+        Order::More => Ordering::Greater,
+    }
 }
 
 // The comparator of merge_increasing_lists_rev: by the keys of the heads, then by priority, which is a cell's place: the first holder comes first.
-// Its sign is the answer.
 // The keys are read only where their beginnings are the same.
-pub fn cell_cmp(
-    words: &[u32],
-    text: &[u8],
-    heads: &[u32; CELLS],
-    beginnings: &[u64; CELLS],
-    a: usize,
-    b: usize,
-) -> i32
-    requires head { Head words.now text.now heads.now beginnings.now a }
-    requires head_2 { Head words.now text.now heads.now beginnings.now b }
-    ensures { sign result ≡ cell_cmp words.now text.now heads.now a b }
+pub fn cell_cmp(words: &[u32], text: &[u8], cells: &[Cell; CELLS], a: usize, b: usize) -> Ordering
+    requires head { Head words.now text.now (heads cells.now) (beginnings cells.now) a }
+    requires head_2 { Head words.now text.now (heads cells.now) (beginnings cells.now) b }
+    ensures { answer result ≡ cell_cmp words.now text.now (heads cells.now) a b }
 {
-    let p = beginnings[a];
-    let q = beginnings[b];
-    if p < q {
-        return -1;
-    }
-    if q < p {
-        return 1;
-    }
-    match compare_keys(words, text, heads[a], heads[b]) {
-        Ordering::Less => -1,
-        Ordering::Equal => a as i32 - b as i32,
-        Ordering::Greater => 1,
+    match cells[a].beginning.cmp(&cells[b].beginning) {
+        Ordering::Equal => compare_keys(words, text, cells[a].head, cells[b].head).then(a.cmp(&b)),
+        unequal => unequal,
     }
 }
