@@ -1,18 +1,20 @@
 -- The comparator on cells, and the source's run-cmp seen through cells.
 use Prim.Native.Nat.{ℕ, zero, suc, ◌+◌, ◌<◌, compare, Ordering}
 use mathlib.Core.Path.{◌≡◌, refl, sym}
+use mathlib.Core.Bool.{Bool}
 use mathlib.Core.List.{List, [], ◌∷◌}
 use native.Mathlib.Omega.{arith}
 use lib.ListN.{get_or, get_or-map, take, drop}
 use lib.Seq.{get_or-drop}
 use Rattle.source.specs.Text.{Str, then, string_compare}
+use Rattle.source.specs.Heap.{is_lt}
 use Rattle.source.specs.Lists.{Run, run_cmp}
 use Rattle.source.proofs.Order.{Viewℕ, compare_view}
 use Rattle.text.proofs.Beginnings.{Bytes, Before, beginning_says}
 use Rattle.memory.specs.Layout.{record_at, text_start, text_len, span, key_at}
 use Rattle.std.specs.declared.cmp.Ordering.{Ordering as Order}
 use Rattle.std.specs.declared.cmp.Ordering.TheVariants.{Less, Equal, Greater}
-use Rattle.std.specs.Ordering.{MatchOrdering, nat_cmp, ordering_then}
+use Rattle.std.specs.Ordering.{is_lt as less, MatchOrdering, nat_cmp, ordering_then}
 use Rattle.std.proofs.lemmas.Cmp.{ranked}
 use Rattle.merge_heads.specs.declared.Cell.{Cell}
 use Rattle.merge_heads.specs.Compare.{heads, beginnings, Head, cell_cmp, answer, Stands}
@@ -101,6 +103,16 @@ by_key ws txt cells a b o {p = p} e f g =
     go Less p = refl
     go Equal p = refl
     go Greater p = refl
+
+-- What the test of an answer says.
+pub is_lt_test : (o : Order) {p : Ordering} {t b : Bool} → answer o ≡ p → t ≡ less o → t ≡ b → is_lt p ≡ b
+unfolding is_lt
+is_lt_test o e f g = rw (← e, ← g, f) (go o)
+  where
+    go : (o : Order) → is_lt (answer o) ≡ less o
+    go Less = refl
+    go Equal = refl
+    go Greater = refl
 
 -- run-cmp, seen through cells.
 pub cell_cmp_run : {A : Type 0} (key : A → Str) (ws txt heads : List ℕ) (a b : ℕ) {r r₂ : Run A}

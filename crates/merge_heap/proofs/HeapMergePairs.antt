@@ -78,7 +78,7 @@ module _ (n : ℕ) (child next : List ℕ) (few : n ≤ 96) where
       siblings_from 96 hh i p.holds (omega (arith, width_cells hh i p.holds, total_ones (λ j. sumᶠ (is j) hh) n p.once))
 
 -- ---- The heaps of a root and of its next siblings
-abbrev Held : ℕ → List ℕ → List ℕ → ℕ → Type 0
+abbrev pub Held : ℕ → List ℕ → List ℕ → ℕ → Type 0
 Held n child next i = (hh : Forest ℕ) × Repᶠ n child next i hh
 
 module _ {n : ℕ} {child next : List ℕ} (few : n ≤ 96) {i : ℕ} where

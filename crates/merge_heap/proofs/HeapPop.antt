@@ -8,7 +8,7 @@ use lib.ListN.{get_or}
 use Rattle.source.specs.Heap.{Heap, Forest, EmptyHeap, HeapOf, []ᶠ, heap_insert, heap_pop, heap_insert_all, heap_from_list}
 use Rattle.source.proofs.Heap.{insert_all_more, sum_merge}
 use Rattle.merge_heap.specs.Cells.{Holdsᶠ, is, count, Sized, Rep, Repᶠ, Inserts, Pairs, Pops, first_cells}
-use Rattle.merge_heap.specs.declared.Popped.TheVariants.{Nothing, Least}
+use Rattle.std.specs.Prelude.{Some, None}
 use Rattle.merge_heap.proofs.CellCounts.{root_small, is_other}
 
 -- ---- heap_pop
@@ -30,13 +30,13 @@ module _ (n : ℕ) (child next : List ℕ) (few : n ≤ 96) (i : ℕ) where
   kids_small h p ne = root_small n child next few (get_or child i 0) (rep_kids h p ne).0 (rep_kids h p ne).1.holds
 
   module _ (cmp : ℕ → ℕ → Ordering) where
-    pub pop_none : i ≡ 96 → Pops cmp n child next child next Nothing i
+    pub pop_none : i ≡ 96 → Pops cmp n child next child next i i None
     unfolding heap_pop
-    pop_none e EmptyHeap p = (refl, refl)
+    pop_none e EmptyHeap p = (refl, refl, refl)
     pop_none e (HeapOf v hh) p = absurd (omega (arith, p.holds.0, p.holds.1))
 
     pub pop_rep : (child' next' : List ℕ) (r : ℕ) → (i ≡ 96 → ⊥)
-        → Pairs cmp n child next child' next' r (get_or child i 0) → Pops cmp n child next child' next' (Least i r) i
+        → Pairs cmp n child next child' next' r (get_or child i 0) → Pops cmp n child next child' next' i r (Some i)
     unfolding heap_pop rep_kids
     pop_rep child' next' r ne paired EmptyHeap p = absurd (ne p.holds)
     pop_rep child' next' r ne paired (HeapOf v hh) p = (p.holds.0, paired hh (rep_kids (HeapOf v hh) p ne).1)

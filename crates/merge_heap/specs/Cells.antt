@@ -1,13 +1,19 @@
 -- The source's heap in cells: `child` has each cell's first child and `next` its next sibling. 96 is no cell.
 use Prim.Native.Nat.{ℕ, zero, suc, ◌+◌, ◌≤◌, ◌<◌, Ordering}
-use Rattle.std.specs.Prelude.{◌≡◌, cond, List, [], ◌∷◌, ◌++◌, eqb, length, get_or}
+use Rattle.std.specs.Prelude.{◌≡◌, cond, List, [], ◌∷◌, ◌++◌, eqb, length, map, get_or, Option as Answer, Some, None}
 use Rattle.std.proofs.Math.Option.{Option, none, some}
 use Rattle.source.specs.Limits.{heaviest_list}
 use Rattle.source.specs.Heap.{Heap, Forest, EmptyHeap, HeapOf, []ᶠ, ◌∷ᶠ◌, heap_merge, heap_insert, heap_merge_pairs, heap_pop}
 use Rattle.source.specs.Forward.{sum, sumᶠ}
 use Rattle.merge_heads.specs.Compare.{Head, Heads}
-use Rattle.merge_heap.specs.declared.Popped.{Popped}
-use Rattle.merge_heap.specs.declared.Popped.TheVariants.{Nothing, Least}
+use Rattle.merge_heap.specs.declared.Links.{Links}
+
+-- The first children and the next siblings, one list for each.
+abbrev pub children : List Links → List ℕ
+children links = map (λ l. l.child) links
+
+abbrev pub nexts : List Links → List ℕ
+nexts links = map (λ l. l.next) links
 
 -- A root: a cell that has a head, or none.
 abbrev pub Root : (ws txt heads beginnings : List ℕ) → ℕ → Type 0
@@ -94,17 +100,17 @@ module _ (cmp : ℕ → ℕ → Ordering) (n : ℕ) (child next child' next' : L
   abbrev pub Pairs : (i : ℕ) → Type 0
   Pairs i = (hh : Forest ℕ) → Repᶠ n child next i hh → Makes n child next child' next' r (heap_merge_pairs cmp hh)
 
--- What heap_pop answers: nothing, and then nothing is changed; or the least cell and the root of the rest.
-abbrev pub Gives : (n : ℕ) (child next child' next' : List ℕ) → Option (ℕ × Heap ℕ) → Popped → Type 0
-Gives n child next child' next' none Nothing = (child' ≡ child) × (next' ≡ next)
-Gives n child next child' next' none (Least w r) = ⊥
-Gives n child next child' next' (some vh) Nothing = ⊥
-Gives n child next child' next' (some vh) (Least w r) = (w ≡ vh.0) × Makes n child next child' next' r vh.1
+-- What heap_pop answers of the root i: none, and then nothing is changed; or the least cell, and r is the root of the rest.
+abbrev pub Gives : (n : ℕ) (child next child' next' : List ℕ) (i r : ℕ) → Option (ℕ × Heap ℕ) → Answer ℕ → Type 0
+Gives n child next child' next' i r none None = (child' ≡ child) × (next' ≡ next) × (r ≡ i)
+Gives n child next child' next' i r none (Some w) = ⊥
+Gives n child next child' next' i r (some vh) None = ⊥
+Gives n child next child' next' i r (some vh) (Some w) = (w ≡ vh.0) × Makes n child next child' next' r vh.1
 
 -- heap_pop.
-abbrev pub Pops : (ℕ → ℕ → Ordering) → (n : ℕ) (child next child' next' : List ℕ) → Popped → (i : ℕ) → Type 0
-Pops cmp n child next child' next' p i = (h : Heap ℕ) → Rep n child next i h
-    → Gives n child next child' next' (heap_pop cmp h) p
+abbrev pub Pops : (ℕ → ℕ → Ordering) → (n : ℕ) (child next child' next' : List ℕ) (i r : ℕ) → Answer ℕ → Type 0
+Pops cmp n child next child' next' i r p = (h : Heap ℕ) → Rep n child next i h
+    → Gives n child next child' next' i r (heap_pop cmp h) p
 
 -- The cells below k, the first one first.
 unfoldable pub first_cells : ℕ → List ℕ
