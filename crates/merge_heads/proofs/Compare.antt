@@ -1,6 +1,6 @@
 -- The comparator on cells, and the source's run-cmp seen through cells.
 use Prim.Native.Nat.{ℕ, zero, suc, ◌+◌, ◌<◌, compare, Ordering}
-use mathlib.Core.Path.{◌≡◌, refl, sym}
+use mathlib.Core.Path.{◌≡◌, refl}
 use mathlib.Core.Bool.{Bool}
 use mathlib.Core.List.{List, [], ◌∷◌}
 use native.Mathlib.Omega.{arith}
@@ -9,7 +9,8 @@ use lib.Seq.{get_or-drop}
 use Rattle.source.specs.Text.{Str, then, string_compare}
 use Rattle.source.specs.Heap.{is_lt}
 use Rattle.source.specs.Lists.{Run, run_cmp}
-use Rattle.source.proofs.Order.{Viewℕ, compare_view}
+use Rattle.text.specs.Text.{ordering}
+use Rattle.text.proofs.Texts.{order_is}
 use Rattle.text.proofs.Beginnings.{Bytes, Before, beginning_says}
 use Rattle.memory.specs.Layout.{record_at, text_start, text_len, span, key_at}
 use Rattle.std.specs.declared.cmp.Ordering.{Ordering as Order}
@@ -17,7 +18,7 @@ use Rattle.std.specs.declared.cmp.Ordering.TheVariants.{Less, Equal, Greater}
 use Rattle.std.specs.Ordering.{is_lt as less, MatchOrdering, nat_cmp, ordering_then}
 use Rattle.std.proofs.lemmas.Cmp.{ranked}
 use Rattle.merge_heads.specs.declared.Cell.{Cell}
-use Rattle.merge_heads.specs.Compare.{heads, beginnings, Head, cell_cmp, answer, Stands}
+use Rattle.merge_heads.specs.Compare.{heads, beginnings, Head, cell_cmp, Stands}
 use Rattle.merge_heads.proofs.Heads.{empty}
 
 -- ---- The comparator
@@ -35,34 +36,11 @@ key_bytes ws txt x b =
     let at = text_start (record_at ws x) in
     take_bytes (text_len (record_at ws x)) (drop at txt) (λ j. rw (get_or-drop at txt j 0) (b (at + j)))
 
--- What `x.cmp(&y)` answers.
-answer_is : (x y : ℕ) (o : Order) → o ≡ nat_cmp x y → answer o ≡ compare x y
-answer_is x y o e = go o (ranked x y o e)
-  where
-    is : (p : Ordering) → Viewℕ x y p → compare x y ≡ p
-    is p v = go (compare x y) p (compare_view x y) v
-      where
-        go : (p q : Ordering) → Viewℕ x y p → Viewℕ x y q → p ≡ q
-        go Ordering.lt Ordering.lt u v = refl
-        go Ordering.lt Ordering.eq u v = absurd (omega arith)
-        go Ordering.lt Ordering.gt u v = absurd (omega arith)
-        go Ordering.eq Ordering.lt u v = absurd (omega arith)
-        go Ordering.eq Ordering.eq u v = refl
-        go Ordering.eq Ordering.gt u v = absurd (omega arith)
-        go Ordering.gt Ordering.lt u v = absurd (omega arith)
-        go Ordering.gt Ordering.eq u v = absurd (omega arith)
-        go Ordering.gt Ordering.gt u v = refl
-
-    go : (p : Order) → MatchOrdering p (x < y) (x ≡ y) (y < x) → answer p ≡ compare x y
-    go Less h = sym (is Ordering.lt h)
-    go Equal h = sym (is Ordering.eq h)
-    go Greater h = sym (is Ordering.gt h)
-
 -- Cells whose beginnings are not the same stand as these do.
 pub by_beginning : {ws txt : List ℕ} (cells : List Cell) {a b : ℕ} → Bytes txt → Head ws txt (heads cells) (beginnings cells) a
     → Head ws txt (heads cells) (beginnings cells) b
     → (o : Order) → o ≡ nat_cmp (get_or cells a empty).beginning (get_or cells b empty).beginning → (o ≡ Equal → ⊥)
-    → answer o ≡ cell_cmp ws txt (heads cells) a b
+    → ordering o ≡ cell_cmp ws txt (heads cells) a b
 unfolding cell_cmp then
 by_beginning {ws} {txt} cells {a} {b} f h k o e ne = go o (ranked _ _ o e) ne
   where
@@ -80,7 +58,7 @@ by_beginning {ws} {txt} cells {a} {b} f h k o e ne = go o (ranked _ _ o e) ne
 
     go : (o : Order) → MatchOrdering o ((get_or cells a empty).beginning < (get_or cells b empty).beginning)
         ((get_or cells a empty).beginning ≡ (get_or cells b empty).beginning) ((get_or cells b empty).beginning < (get_or cells a empty).beginning)
-        → (o ≡ Equal → ⊥) → answer o ≡ then (string_compare x y) (compare a b)
+        → (o ≡ Equal → ⊥) → ordering o ≡ then (string_compare x y) (compare a b)
     go Less l n =
         let r : Before x y =
         beginning_says x y (key_bytes ws txt (get_or (heads cells) a 0) f) (key_bytes ws txt (get_or (heads cells) b 0) f) (omega (arith, h.begun, k.begun, at_a, at_b)) in
@@ -93,23 +71,23 @@ by_beginning {ws} {txt} cells {a} {b} f h k o e ne = go o (ranked _ _ o e) ne
 
 -- Others by their keys, and by their places where those are the same.
 pub by_key : (ws txt : List ℕ) (cells : List Cell) (a b : ℕ) (o : Order) {r p : Order} → r ≡ ordering_then o p
-    → answer o ≡ string_compare (key_at ws txt (get_or cells a empty).head) (key_at ws txt (get_or cells b empty).head)
-    → p ≡ nat_cmp a b → answer r ≡ cell_cmp ws txt (heads cells) a b
+    → ordering o ≡ string_compare (key_at ws txt (get_or cells a empty).head) (key_at ws txt (get_or cells b empty).head)
+    → p ≡ nat_cmp a b → ordering r ≡ cell_cmp ws txt (heads cells) a b
 unfolding cell_cmp then
 by_key ws txt cells a b o {p = p} e f g =
-    rw (e, get_or-map (λ c. c.head) cells a empty, get_or-map (λ c. c.head) cells b empty, ← f, ← answer_is a b p g) (go o p)
+    rw (e, get_or-map (λ c. c.head) cells a empty, get_or-map (λ c. c.head) cells b empty, ← f, ← order_is a b p g) (go o p)
   where
-    go : (o p : Order) → answer (ordering_then o p) ≡ then (answer o) (answer p)
+    go : (o p : Order) → ordering (ordering_then o p) ≡ then (ordering o) (ordering p)
     go Less p = refl
     go Equal p = refl
     go Greater p = refl
 
 -- What the test of an answer says.
-pub is_lt_test : (o : Order) {p : Ordering} {t b : Bool} → answer o ≡ p → t ≡ less o → t ≡ b → is_lt p ≡ b
+pub is_lt_test : (o : Order) {p : Ordering} {t b : Bool} → ordering o ≡ p → t ≡ less o → t ≡ b → is_lt p ≡ b
 unfolding is_lt
 is_lt_test o e f g = rw (← e, ← g, f) (go o)
   where
-    go : (o : Order) → is_lt (answer o) ≡ less o
+    go : (o : Order) → is_lt (ordering o) ≡ less o
     go Less = refl
     go Equal = refl
     go Greater = refl

@@ -4,12 +4,12 @@
 ghost use Rattle.std.specs.Prelude.{◌≡◌, ◌<◌};
 ghost use Rattle.source.specs.Limits.{heaviest_list};
 ghost use Rattle.source.specs.Text.{string_compare};
+ghost use Rattle.text.specs.Text.{ordering};
 ghost use Rattle.memory.specs.Layout.{key_at};
 ghost use Rattle.memory.specs.Read.{TextIn};
-ghost use Rattle.merge_heads.specs.Compare.{heads, beginnings, Head, Begins, cell_cmp, answer};
+ghost use Rattle.merge_heads.specs.Compare.{heads, beginnings, Head, Begins, cell_cmp};
 
 use std::cmp::Ordering;
-use text::Order;
 
 // How many lists a merge takes, and so how many cells there are. As a cell it is none.
 pub const CELLS: usize = memory::HEAVIEST as usize;
@@ -54,17 +54,13 @@ pub fn set_head(
 fn compare_keys(words: &[u32], text: &[u8], x: u32, y: u32) -> Ordering
     requires text_in { TextIn words.now text.now x }
     requires text_in_2 { TextIn words.now text.now y }
-    ensures { answer result ≡ string_compare (key_at words.now text.now x) (key_at words.now text.now y) }
+    ensures { ordering result ≡ string_compare (key_at words.now text.now x) (key_at words.now text.now y) }
 {
-    let c = text::string_compare(
+    text::string_compare(
         memory_access::key_of(words, text, x),
         memory_access::key_of(words, text, y),
-    );
-    match c.order {
-        Order::Less => Ordering::Less,
-        Order::Same => Ordering::Equal,
-        Order::More => Ordering::Greater,
-    }
+    )
+    .order
 }
 
 // The comparator of merge_increasing_lists_rev: by the keys of the heads, then by priority, which is a cell's place: the first holder comes first.
@@ -72,7 +68,7 @@ fn compare_keys(words: &[u32], text: &[u8], x: u32, y: u32) -> Ordering
 pub fn cell_cmp(words: &[u32], text: &[u8], cells: &[Cell; CELLS], a: usize, b: usize) -> Ordering
     requires head { Head words.now text.now (heads cells.now) (beginnings cells.now) a }
     requires head_2 { Head words.now text.now (heads cells.now) (beginnings cells.now) b }
-    ensures { answer result ≡ cell_cmp words.now text.now (heads cells.now) a b }
+    ensures { ordering result ≡ cell_cmp words.now text.now (heads cells.now) a b }
 {
     match cells[a].beginning.cmp(&cells[b].beginning) {
         Ordering::Equal => compare_keys(words, text, cells[a].head, cells[b].head).then(a.cmp(&b)),
