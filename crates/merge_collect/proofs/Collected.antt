@@ -5,7 +5,7 @@ use mathlib.Core.List.{List, [], ◌∷◌, ◌++◌, map, map-append}
 use mathlib.Core.Option.{Option, none, some}
 use native.Mathlib.Numerals.{add-one}
 use native.Mathlib.Omega.{arith}
-use lib.ListN.{length, set, length-set, length-append}
+use lib.ListN.{length, length-map, set, length-set, length-append}
 use lib.Seq.{get_or-set_same, get_or-set_other}
 use borrow.Author.Tests.{ne_eqb}
 use Rattle.source.specs.Text.{Str}
@@ -26,7 +26,8 @@ use Rattle.memory.specs.Stored.{weight_in}
 use Rattle.memory.specs.Read.{TextIn}
 use Rattle.memory.proofs.What.{what_none}
 use Rattle.memory.proofs.Seen.{link_later}
-use Rattle.merge_heads.specs.Compare.{with_beginning}
+use Rattle.merge_heads.specs.declared.Cell.{Cell}
+use Rattle.merge_heads.specs.Compare.{roots, labels, heads, beginnings, with_beginning}
 use Rattle.merge_heads.proofs.Heads.{head_begun}
 use Rattle.find_tree.specs.Tree.{AnyTree}
 use Rattle.find_tree.specs.Links.{matches, head0, row_at}
@@ -193,6 +194,16 @@ full_set ws txt {roots} {heads} {beginnings} {labels} i a b c f =
       of_beginnings = length-set beginnings i _ ∙ f.of_beginnings;
       of_labels = length-set labels i c ∙ f.of_labels;
     }
+
+-- The lists of 96 cells.
+pub full_cells : (cells : List Cell) → length cells ≡ 96
+    → Full (roots cells) (heads cells) (beginnings cells) (labels cells)
+full_cells cells e = record {
+  of_roots = length-map cells (λ x. x.root) ∙ e;
+  of_heads = length-map cells (λ x. x.head) ∙ e;
+  of_beginnings = length-map cells (λ x. x.beginning) ∙ e;
+  of_labels = length-map cells (λ x. x.label) ∙ e;
+}
 
 -- ---- One collection
 pub collected_none : {ws txt : List ℕ} {p : Str} {x label i : ℕ} {roots heads beginnings labels : List ℕ} → x ≡ 0

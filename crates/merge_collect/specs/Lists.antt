@@ -12,7 +12,8 @@ use Rattle.source.specs.Forward.{tree_matches}
 use Rattle.source.specs.Forward.{flat_in}
 use Rattle.memory.specs.Layout.{Which, Item, tree, list, kind, what}
 use Rattle.memory.specs.Sound.{LinkOk, At}
-use Rattle.merge_heads.specs.Compare.{Begun}
+use Rattle.merge_heads.specs.declared.Cell.{Cell}
+use Rattle.merge_heads.specs.Compare.{roots, labels, heads, beginnings, Begun}
 use Rattle.find_tree.specs.Links.{matches, row_at}
 use Rattle.find_list.specs.Entries.{label_at, Asks, LabelOk}
 
@@ -83,3 +84,9 @@ module _ (ws txt : List ℕ) (p : Str) (x label i r : ℕ)
     pub says : (w : Which) (ℓ : Level) (l : ℕ) (imports : List Str) → At ws txt w (list ℓ) x → x ≤ l
         → LabelOk ws w ℓ l label
         → label_at ws txt label ≡ last_opt imports → CollectedIn w ℓ l imports
+
+-- The same, of the cells.
+abbrev pub Collects : (ws txt : List ℕ) (p : Str) (x label i r : ℕ) → List Cell → List Cell → Type 0
+Collects ws txt p x label i r cells cells' =
+    Collected ws txt p x label i r (roots cells) (heads cells) (beginnings cells) (labels cells)
+    (roots cells') (heads cells') (beginnings cells') (labels cells')

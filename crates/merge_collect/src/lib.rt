@@ -5,9 +5,9 @@ ghost use Rattle.std.specs.Prelude.{◌+◌, ◌≤◌};
 ghost use Rattle.source.specs.Limits.{heaviest_list};
 ghost use Rattle.memory.specs.Stored.{weight_in};
 ghost use Rattle.find_list.specs.Names.{AnyList};
-ghost use Rattle.merge_collect.specs.Lists.{Full, Collected};
+ghost use Rattle.merge_collect.specs.Lists.{Collects};
 
-use merge_heads::CELLS;
+use merge_heads::{CELLS, Cell};
 
 // A list, the collection of the outermost label above it, 0 for none, and the cell of its first tree.
 #[derive(Clone, Copy)]
@@ -24,63 +24,44 @@ pub fn collect(
     text: &[u8],
     prefix: &[u8],
     part: LabelledList,
-    roots: &mut [u32; CELLS],
-    heads: &mut [u32; CELLS],
-    beginnings: &mut [u64; CELLS],
-    labels: &mut [u32; CELLS],
+    cells: &mut [Cell; CELLS],
 ) -> usize
     requires any_list { AnyList words.now text.now part.list }
     requires list_bound { part.at + weight_in words.now part.list ≤ heaviest_list }
-    requires full { Full roots.old heads.old beginnings.old labels.old }
     ensures upper_bound { result ≤ part.at + weight_in words.now part.list }
-    ensures collected { Collected words.now text.now prefix.now part.list part.label part.at result
-        roots.old heads.old beginnings.old labels.old
-        roots.new heads.new beginnings.new labels.new }
+    ensures collected { Collects words.now text.now prefix.now part.list part.label part.at result cells.old cells.new }
 {
-    let list = part.list;
-    let label = part.label;
-    let at = part.at;
-    if list == 0 {
-        return at;
+    if part.list == 0 {
+        return part.at;
     }
-    let own = memory_access::own_of(words, list);
+    let own = memory_access::own_of(words, part.list);
     let rest = LabelledList {
-        list: memory_access::rest_of(words, list),
-        label: label,
-        at: at,
+        list: memory_access::rest_of(words, part.list),
+        ..part
     };
-    if memory_access::sort_of(words, list) == memory::IMPORTED {
-        let mut outer = label;
-        if label == 0 {
-            outer = list;
-        }
+    if memory_access::sort_of(words, part.list) == memory::IMPORTED {
         let imported = LabelledList {
             list: own,
-            label: outer,
-            at: at,
+            label: if part.label == 0 { part.list } else { part.label },
+            at: part.at,
         };
-        let mid = collect(
-            words, text, prefix, imported, roots, heads, beginnings, labels,
-        );
+        let mid = collect(words, text, prefix, imported, cells);
         let after = LabelledList {
-            list: rest.list,
-            label: label,
             at: mid,
+            ..rest
         };
-        return collect(words, text, prefix, after, roots, heads, beginnings, labels);
+        return collect(words, text, prefix, after, cells);
     }
     let first = match_next::tree_first(words, text, own, prefix);
     if first == 0 {
-        return collect(words, text, prefix, rest, roots, heads, beginnings, labels);
+        return collect(words, text, prefix, rest, cells);
     }
-    roots[at] = own;
-    merge_heads::set_head(words, text, heads, beginnings, at, first);
-    labels[at] = label;
-    let next = at + 1;
+    cells[part.at].root = own;
+    cells[part.at].label = part.label;
+    merge_heads::set_head(words, text, cells, part.at, first);
     let after = LabelledList {
-        list: rest.list,
-        label: label,
-        at: next,
+        at: part.at + 1,
+        ..rest
     };
-    collect(words, text, prefix, after, roots, heads, beginnings, labels)
+    collect(words, text, prefix, after, cells)
 }

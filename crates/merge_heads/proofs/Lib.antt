@@ -1,2 +1,3 @@
+pub mod Cells
 pub mod Compare
 pub mod Heads

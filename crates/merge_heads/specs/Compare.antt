@@ -31,7 +31,7 @@ abbrev pub with_beginning : (ws txt beginnings : List ℕ) (c x : ℕ) → List 
 with_beginning ws txt beginnings c x = set beginnings c (beginning (key_at ws txt x))
 
 -- The cell c is given the branch x, and nothing else is changed.
-pub record Begins (ws txt : List ℕ) (cells cells' : List Cell) (c x : ℕ) : Type 0 where
+pub record HeadSet (ws txt : List ℕ) (cells cells' : List Cell) (c x : ℕ) : Type 0 where
   pub roots_are : roots cells' ≡ roots cells
   pub labels_are : labels cells' ≡ labels cells
   pub heads_are : heads cells' ≡ set (heads cells) c x

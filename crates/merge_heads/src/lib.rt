@@ -7,7 +7,7 @@ ghost use Rattle.source.specs.Text.{string_compare};
 ghost use Rattle.text.specs.Text.{ordering};
 ghost use Rattle.memory.specs.Layout.{key_at};
 ghost use Rattle.memory.specs.Read.{TextIn};
-ghost use Rattle.merge_heads.specs.Compare.{heads, beginnings, Head, Begins, cell_cmp};
+ghost use Rattle.merge_heads.specs.Compare.{heads, beginnings, Head, HeadSet, cell_cmp};
 
 use std::cmp::Ordering;
 
@@ -41,7 +41,7 @@ pub fn set_head(
 )
     requires text_in { TextIn words.now text.now branch }
     requires cell_lt_heaviest_list { cell < heaviest_list }
-    ensures { Begins words.now text.now cells.old cells.new cell branch }
+    ensures { HeadSet words.now text.now cells.old cells.new cell branch }
 {
     cells[cell] = Cell {
         head: branch,
