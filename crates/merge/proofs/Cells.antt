@@ -22,7 +22,7 @@ use Rattle.find_tree.proofs.After.{all_after, after_next}
 use Rattle.find_tree.proofs.Matches.{MatchOf, matches_of, matches_increasing}
 use Rattle.find_list.specs.Entries.{entry_key}
 use Rattle.merge_collect.proofs.Collected.{no_match}
-use Rattle.merge.specs.Stream.{Merge, later, run_at, left, remaining, Holding}
+use Rattle.merge.specs.Stream.{State, later, run_at, left, remaining, Holding}
 use Rattle.memory.specs.Sound.{At}
 use Rattle.memory.proofs.At.{at_of}
 
@@ -58,7 +58,7 @@ module _ {ws txt : List ℕ} {w : Which} {ℓ : Level} {x : ℕ} (here : At ws t
   pub branch_head : {y : ℕ} → BranchOf ws w ℓ x y → TextIn ws txt y
   branch_head o = let t = cell_branch_tree o in text_in t.1 t.0
 
-module _ {ws txt : List ℕ} {w : Which} {ℓ : Level} {x : ℕ} {p : Str} {m : Merge} {h : Heap ℕ}
+module _ {ws txt : List ℕ} {w : Which} {ℓ : Level} {x : ℕ} {p : Str} {m : State} {h : Heap ℕ}
     (g : Holding ws txt w ℓ x p m h) where
   pub cell_tree : (j : ℕ) → j < m.n → At ws txt w (tree ℓ) (get_or m.roots j 0)
   cell_tree j l = at_of g.here (tree _) (omega arith) (g.cells j l).root_link
@@ -74,7 +74,7 @@ module _ {ws txt : List ℕ} {w : Which} {ℓ : Level} {x : ℕ} {p : Str} {m : 
   }
 
 -- The next match of a cell is a branch of the list's trees.
-pub next_branch : {ws txt : List ℕ} {w : Which} {ℓ : Level} {x : ℕ} {p : Str} {m : Merge} {h : Heap ℕ}
+pub next_branch : {ws txt : List ℕ} {w : Which} {ℓ : Level} {x : ℕ} {p : Str} {m : State} {h : Heap ℕ}
     (g : Holding ws txt w ℓ x p m h) {j r : ℕ} (l : j < m.n)
     → Next (cell_tree g j l) p (get_or m.heads j 0) r → BranchOf ws w ℓ x r
 next_branch g {j} l m = record { some = m.match.branch.some; link = link_later (omega (arith, (g.cells j l).root_link.earlier)) m.match.branch.link }

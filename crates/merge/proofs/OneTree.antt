@@ -3,6 +3,7 @@ use Prim.Native.Nat.{ℕ, ◌<◌, ◌≤◌}
 use mathlib.Core.Path.{◌≡◌, refl, ap, ◌∙◌}
 use mathlib.Core.List.{List, [], ◌∷◌, map}
 use mathlib.Core.Option.{Option}
+use Rattle.std.specs.Prelude.{Some}
 use native.Mathlib.Omega.{arith}
 use Rattle.source.specs.Text.{Str}
 use Rattle.source.specs.Types.{Level, Value}
@@ -25,12 +26,9 @@ use Rattle.merge_collect.proofs.Collected.{term_rows}
 use Rattle.memory.specs.Sound.{At}
 use Rattle.memory.proofs.At.{no_link, at_of}
 
-pub single_none : {ws : List ℕ} {x : ℕ} → Single ws x 0
-single_none txt w v t p = absurd (omega arith)
-
 pub single_tree : {ws : List ℕ} {x r : ℕ} → 0 < x → (sort_word (record_at ws x) ≡ 1 → ⊥)
-    → rest_link (record_at ws x) ≤ 0 → r ≡ own_link (record_at ws x) → Single ws x r
-single_tree {ws} {x} {r} p n z e txt w v t q =
+    → rest_link (record_at ws x) ≤ 0 → r ≡ own_link (record_at ws x) → Single ws x (Some r)
+single_tree {ws} {x} {r} p n z e txt w v t =
     let f : rest_link (record_at ws x) ≡ 0 = omega arith in
     record {
       link = rw e (link_later (omega arith) ((collection_right t p).own (sort_tree t p n)));
@@ -63,10 +61,10 @@ module _ {ws txt : List ℕ} {w : Which} {ℓ : Level} {x r : ℕ} (t : At ws tx
       shows [] = refl
       shows (b ∷ xs) = ap (◌∷◌ (shown w ws txt ℓ q (record { branch = b; label = 0 }))) (shows xs)
 
-pub single_one : {ws txt : List ℕ} {w : Which} {ℓ : Level} {x r : ℕ} (p : Str) → At ws txt w (list ℓ) x → Single ws x r
-    → 0 < r → OneTree ws txt w ℓ x p r 0
-single_one {txt = txt} {w} {ℓ} p t s h =
-    let o = s txt w ℓ t h in
+pub single_one : {ws txt : List ℕ} {w : Which} {ℓ : Level} {x r : ℕ} (p : Str) → At ws txt w (list ℓ) x → Single ws x (Some r)
+    → OneTree ws txt w ℓ x p r 0
+single_one {txt = txt} {w} {ℓ} p t s =
+    let o = s txt w ℓ t in
     record {
       root_link = o.link;
       label_ok = record { link = no_link _ _; imports = λ i. absurd (omega arith) };

@@ -19,9 +19,10 @@ use Rattle.find_tree.specs.Tree.{AnyTree}
 use Rattle.find_tree.specs.Links.{BranchOf}
 use Rattle.find_list.specs.Entries.{Entry, entry_key}
 use Rattle.find_list.specs.Entries.{LabelOk}
-use Rattle.merge.specs.Stream.{Merge, Step, run_at, remaining, Holding, heap_of, Last, Rest, AnyRest, left_in, GivenIn, GivesIn, Gives, state, Takes}
+use Rattle.merge.specs.Stream.{State, given_last, run_at, Holding, heap_of, Last, Rest, AnyRest, left_in, GivenIn, GivesIn, Gives, Takes}
 use Rattle.merge.specs.Stream.{CellsReady}
-use Rattle.merge.specs.declared.Taken.{Taken}
+use Rattle.merge.specs.declared.Given.{Given}
+use Rattle.std.specs.Prelude.{Some, None}
 use Rattle.merge.proofs.Cells.{cell_branch_tree}
 
 -- Whether an entry has the key of the last one.
@@ -44,76 +45,64 @@ last_branch : (ws : List ℕ) (w : Which) (ℓ : Level) (x l : ℕ) (given : Opt
 last_branch ws w ℓ x l none g n = absurd (n g)
 last_branch ws w ℓ x l (some y) g n = g.1
 
-module _ {ws txt : List ℕ} {p : Str} {n root last : ℕ}
-    {roots heads beginnings labels child next roots' heads' beginnings' child' next' : List ℕ} {taken : Taken}
-    (takes : Takes ws txt p n root roots heads beginnings child next roots' heads' beginnings' child' next' taken)
-    {w : Which} {ℓ : Level} {x : ℕ}
-    {es : List Entry}
-    (g : Rest ws txt w ℓ x p (state roots heads beginnings labels child next n root last) es) where
-  pub step_end : taken.cell ≡ 96 → es ≡ []
-  step_end e = go g.heap g.holding g.says
+module _ {ws txt : List ℕ} {p : Str} {m m' : State} {w : Which} {ℓ : Level} {x : ℕ} {es : List Entry}
+    (g : Rest ws txt w ℓ x p m es) where
+  pub step_end : Takes ws txt p m m' None → es ≡ []
+  step_end takes = go g.heap g.holding g.says
     where
-      go : (h : Heap ℕ) → Holding ws txt w ℓ x p (state roots heads beginnings labels child next n root last) h
-          → es ≡ forward (entry_key ws txt) g.fuel
-          (heap_of ws txt p (state roots heads beginnings labels child next n root last) h) g.given → es ≡ []
+      go : (h : Heap ℕ) → Holding ws txt w ℓ x p m h
+          → es ≡ forward (entry_key ws txt) g.fuel (heap_of ws txt p m h) g.given → es ≡ []
       go EmptyHeap o q = q ∙ forward_empty (entry_key ws txt) g.fuel g.given
-      go (HeapOf c hh) o q = let k = takes.took labels last w ℓ x (HeapOf c hh) o in absurd (omega (arith, k.cell_is, k.below, o.few))
+      go (HeapOf c hh) o q = absurd (takes.took w ℓ x (HeapOf c hh) o)
 
+module _ {ws txt : List ℕ} {p : Str} {m m' : State} {taken : Given} (takes : Takes ws txt p m m' (Some taken))
+    {w : Which} {ℓ : Level} {x : ℕ} {es : List Entry}
+    (g : Rest ws txt w ℓ x p m es) where
   -- The cell gives an entry, unless that has the key of the last one; what the state gives then, in both cases.
   pub record Stepped : Type 0 where
     pub entry : Entry
     pub branch_is : taken.branch ≡ entry.branch
-    pub label_is : get_or labels taken.cell 0 ≡ entry.label
-    pub below : taken.cell < n
+    pub label_is : taken.label ≡ entry.label
     pub branch : BranchOf ws w ℓ x taken.branch
     pub begins : starts_with (key_at ws txt taken.branch) p ≡ true
-    pub label_ok : LabelOk ws w ℓ x (get_or labels taken.cell 0)
+    pub label_ok : LabelOk ws w ℓ x taken.label
     pub passed : List Entry
     pub after : List Entry
     pub splits : es ≡ cond (again (entry_key ws txt) entry g.given) passed (entry ∷ after)
-    pub passed_rest : Rest ws txt w ℓ x p
-        (state roots' heads' beginnings' labels child' next' n taken.root last) passed
-    pub after_rest : Rest ws txt w ℓ x p
-        (state roots' heads' beginnings' labels child' next' n taken.root taken.branch) after
-    pub fewer : remaining ws txt p roots' heads' n < remaining ws txt p roots heads n
+    pub passed_rest : Rest ws txt w ℓ x p m' passed
+    pub after_rest : Rest ws txt w ℓ x p (given_last m' taken.branch) after
+    pub fewer : left_in ws txt p m' < left_in ws txt p m
 
-  pub merge_steps : (taken.cell ≡ 96 → ⊥) → Stepped
+  pub merge_steps : Stepped
   unfolding first run_at
-  merge_steps ne = go g.heap g.holding g.enough g.says
+  merge_steps = go g.heap g.holding g.enough g.says
     where
-      m : Merge
-      m = state roots heads beginnings labels child next n root last
-
-      m' : Merge
-      m' = state roots' heads' beginnings' labels child' next' n taken.root last
-
       go : (h : Heap ℕ) → Holding ws txt w ℓ x p m h → held (heap_of ws txt p m h) ≤ g.fuel
           → es ≡ forward (entry_key ws txt) g.fuel (heap_of ws txt p m h) g.given → Stepped
-      go EmptyHeap o h q = absurd (ne (takes.took labels last w ℓ x EmptyHeap o))
+      go EmptyHeap o h q = absurd (takes.took w ℓ x EmptyHeap o)
       go (HeapOf c hh) o h q =
-          let k = takes.took labels last w ℓ x (HeapOf c hh) o in
+          let k = takes.took w ℓ x (HeapOf c hh) o in
           let a = o.cells c k.below in
-          let val = run_at ws txt p roots heads labels in
+          let val = run_at ws txt p m.roots m.heads m.labels in
           let few : held (heap_of ws txt p m' k.heap) ≤ g.fuel =
           omega (arith, ap held k.heap_is, held_popped (entry_key ws txt) (val c) (forest_map val hh)) in
           record {
-            entry = record { branch = get_or heads c 0; label = get_or labels c 0 };
+            entry = record { branch = get_or m.heads c 0; label = get_or m.labels c 0 };
             branch_is = k.branch_is;
-            label_is = ap (λ (j : ℕ). get_or labels j 0) k.cell_is;
-            below = omega (arith, k.cell_is, k.below);
+            label_is = k.label_is;
             branch = rw k.branch_is a.branch;
             begins = rw k.branch_is a.begins;
-            label_ok = rw k.cell_is a.label_ok;
+            label_ok = rw k.label_is a.label_ok;
             passed = forward (entry_key ws txt) g.fuel (heap_of ws txt p m' k.heap) g.given;
             after = forward (entry_key ws txt) g.fuel (heap_of ws txt p m' k.heap)
-                (some (record { branch = get_or heads c 0; label = get_or labels c 0 }));
+                (some (record { branch = get_or m.heads c 0; label = get_or m.labels c 0 }));
             splits = q ∙ forward_step (entry_key ws txt) g.fuel (val c) (forest_map val hh) g.given h
                 ∙ rw k.heap_is;
             passed_rest = record {
               heap = k.heap;
               holding = k.holding;
               given = g.given;
-              last = g.last;
+              last = rw takes.last_is g.last;
               fuel = g.fuel;
               enough = few;
               says = refl;
@@ -121,7 +110,7 @@ module _ {ws txt : List ℕ} {p : Str} {n root last : ℕ}
             after_rest = record {
               heap = k.heap;
               holding = relast k.holding;
-              given = some (record { branch = get_or heads c 0; label = get_or labels c 0 });
+              given = some (record { branch = get_or m.heads c 0; label = get_or m.labels c 0 });
               last = (sym k.branch_is, rw k.branch_is a.branch);
               fuel = g.fuel;
               enough = few;
@@ -130,34 +119,26 @@ module _ {ws txt : List ℕ} {p : Str} {n root last : ℕ}
             fewer = k.fewer;
           }
         where
-          relast : {h : Heap ℕ} {l : ℕ}
-              → Holding ws txt w ℓ x p (state roots' heads' beginnings' labels child' next' n taken.root last) h
-              → Holding ws txt w ℓ x p (state roots' heads' beginnings' labels child' next' n taken.root l) h
+          relast : {h : Heap ℕ} → Holding ws txt w ℓ x p m' h → Holding ws txt w ℓ x p (given_last m' taken.branch) h
           relast o = record { here = o.here; few = o.few; full = o.full; cells = o.cells; begun = o.begun; rep = o.rep; live = o.live }
 
--- ---- merge_next
+-- ---- Merge::next
 
--- What is left of the entries of m after those passed over.
-pub record Passing (ws txt : List ℕ) (p : Str) (m : Merge) (roots heads beginnings child next : List ℕ)
-    (root : ℕ) : Type 0 where
+-- What is left of the entries of m after those passed over: the state m' gives them.
+pub record Passing (ws txt : List ℕ) (p : Str) (m m' : State) : Type 0 where
   pub says : (w : Which) (ℓ : Level) (x : ℕ) (es : List Entry) → Rest ws txt w ℓ x p m es
-      → Rest ws txt w ℓ x p (state roots heads beginnings m.labels child next m.n root m.last) es
-  pub fewer : remaining ws txt p roots heads m.n ≤ left_in ws txt p m
+      → Rest ws txt w ℓ x p m' es
+  pub fewer : left_in ws txt p m' ≤ left_in ws txt p m
 
-pub passing_none : {ws txt : List ℕ} {p : Str} (m : Merge)
-    → Passing ws txt p m m.roots m.heads m.beginnings m.child m.next m.root
+pub passing_none : {ws txt : List ℕ} {p : Str} (m : State) → Passing ws txt p m m
 passing_none m = record { says = λ w v x s g. g; fewer = omega arith }
 
-module _ {ws txt : List ℕ} {p : Str} {m : Merge} {roots heads beginnings child next : List ℕ} {root : ℕ}
-    (o : Passing ws txt p m roots heads beginnings child next root) (y : AnyRest ws txt p m) where
-  abbrev now_rest : Rest ws txt y.which y.level y.link p
-      (state roots heads beginnings m.labels child next m.n root m.last) y.entries
+module _ {ws txt : List ℕ} {p : Str} {m m' : State} (o : Passing ws txt p m m') (y : AnyRest ws txt p m) where
+  abbrev now_rest : Rest ws txt y.which y.level y.link p m' y.entries
   now_rest = o.says y.which y.level y.link y.entries y.rest
 
-  pub passing_ready : CellsReady ws txt p m.n root roots heads beginnings child next
+  pub passing_ready : CellsReady ws txt p m'
   passing_ready = record {
-    labels = m.labels;
-    last = m.last;
     which = y.which;
     level = y.level;
     link = y.link;
@@ -165,58 +146,44 @@ module _ {ws txt : List ℕ} {p : Str} {m : Merge} {roots heads beginnings child
     holding = now_rest.holding;
   }
 
-  module _ {roots' heads' beginnings' child' next' : List ℕ} {taken : Taken}
-      (takes : Takes ws txt p
-      m.n root roots heads beginnings child next roots' heads' beginnings' child' next' taken)
-      (ne : taken.cell ≡ 96 → ⊥) where
-    pub passing_small : taken.cell < 96
-    passing_small = omega (arith, (merge_steps takes now_rest ne).below, now_rest.holding.few)
-
-    pub passing_fewer : remaining ws txt p roots' heads' m.n < remaining ws txt p roots heads m.n
-    passing_fewer = (merge_steps takes now_rest ne).fewer
+  module _ {m'' : State} {taken : Given} (takes : Takes ws txt p m' m'' (Some taken)) where
+    pub passing_fewer : left_in ws txt p m'' < left_in ws txt p m'
+    passing_fewer = (merge_steps takes now_rest).fewer
 
     pub passing_branch : (0 < taken.branch) × AnyTree ws txt taken.branch
-    passing_branch = let k = merge_steps takes now_rest ne in cell_branch_tree now_rest.holding.here k.branch
+    passing_branch = let k = merge_steps takes now_rest in cell_branch_tree now_rest.holding.here k.branch
 
-    pub passing_last : (m.last ≡ 0 → ⊥) → (0 < m.last) × AnyTree ws txt m.last
-    passing_last n = cell_branch_tree now_rest.holding.here (last_branch ws y.which y.level y.link m.last now_rest.given now_rest.last n)
+    pub passing_last : (l : ℕ) → m''.last ≡ l → (l ≡ 0 → ⊥) → (0 < l) × AnyTree ws txt l
+    passing_last l e n =
+        cell_branch_tree now_rest.holding.here
+        (last_branch ws y.which y.level y.link l now_rest.given (rw (← e, takes.last_is) now_rest.last) n)
 
-module _ {ws txt : List ℕ} {p : Str} {m : Merge} {roots heads beginnings child next : List ℕ} {root : ℕ}
-    (o : Passing ws txt p m roots heads beginnings child next root)
-    {roots' heads' beginnings' child' next' : List ℕ} {taken : Taken}
-    (takes : Takes ws txt p
-    m.n root roots heads beginnings child next roots' heads' beginnings' child' next' taken) where
-  pub passing_end : (r : Step) → r.branch ≡ 0 → taken.cell ≡ 96 → Gives ws txt p m r
-  passing_end r z e w v x es g = subst (λ (es : List Entry). GivesIn ws txt w v x p m es r) (sym (step_end takes (o.says w v x es g) e)) z
+module _ {ws txt : List ℕ} {p : Str} {m m' m'' : State} (o : Passing ws txt p m m') where
+  pub passing_end : Takes ws txt p m' m'' None → Gives ws txt p m None m''
+  passing_end takes w v x es g =
+      subst (λ (es : List Entry). GivesIn ws txt w v x p m es None m'') (sym (step_end (o.says w v x es g) takes)) tt
 
-  module _ (ne : taken.cell ≡ 96 → ⊥) where
-    pub passing_on : remaining ws txt p roots' heads' m.n < remaining ws txt p roots heads m.n → (m.last ≡ 0 → ⊥)
-        → same (key_at ws txt taken.branch) (key_at ws txt m.last) ≡ true
-        → Passing ws txt p m roots' heads' beginnings' child' next' taken.root
+  module _ {taken : Given} (takes : Takes ws txt p m' m'' (Some taken)) where
+    pub passing_on : left_in ws txt p m'' < left_in ws txt p m' → (m''.last ≡ 0 → ⊥)
+        → same (key_at ws txt taken.branch) (key_at ws txt m''.last) ≡ true
+        → Passing ws txt p m m''
     passing_on f n e = record {
       says = λ w v x es g.
           let r = o.says w v x es g in
-          let k = merge_steps takes r ne in
-          subst (λ (es : List Entry). Rest ws txt w v x p (state roots' heads' beginnings' m.labels child' next' m.n taken.root m.last) es)
-          (sym (k.splits ∙ rw (again_same ws txt w v x m.last k.entry r.given r.last n (rw k.branch_is at e)))) k.passed_rest;
+          let k = merge_steps takes r in
+          let last : Last ws w v x m''.last r.given = rw takes.last_is r.last in
+          subst (λ (es : List Entry). Rest ws txt w v x p m'' es)
+          (sym (k.splits ∙ rw (again_same ws txt w v x m''.last k.entry r.given last n (rw k.branch_is at e)))) k.passed_rest;
       fewer = omega (arith, o.fewer);
     }
 
-    pub passing_gives : ((m.last ≡ 0 → ⊥) → same (key_at ws txt taken.branch) (key_at ws txt m.last) ≡ false)
-        → Gives ws txt p m (record {
-          branch = taken.branch;
-          label = get_or m.labels taken.cell 0;
-          m = state roots' heads' beginnings' m.labels child' next' m.n taken.root taken.branch;
-        })
+    pub passing_gives : ((m''.last ≡ 0 → ⊥) → same (key_at ws txt taken.branch) (key_at ws txt m''.last) ≡ false)
+        → Gives ws txt p m (Some taken) (given_last m'' taken.branch)
     passing_gives f w v x es g =
         let r = o.says w v x es g in
-        let k = merge_steps takes r ne in
-        let step : Step = record {
-          branch = taken.branch;
-          label = get_or m.labels taken.cell 0;
-          m = state roots' heads' beginnings' m.labels child' next' m.n taken.root taken.branch;
-        } in
-        let d : GivenIn ws txt w v x p m k.entry k.after step =
+        let k = merge_steps takes r in
+        let last : Last ws w v x m''.last r.given = rw takes.last_is r.last in
+        let d : GivenIn ws txt w v x p m k.entry k.after taken (given_last m'' taken.branch) =
         record {
           branch_is = k.branch_is;
           label_is = k.label_is;
@@ -227,5 +194,5 @@ module _ {ws txt : List ℕ} {p : Str} {m : Merge} {roots heads beginnings child
           fewer = omega (arith, o.fewer, k.fewer);
         } in
         let e : es ≡ k.entry ∷ k.after =
-        k.splits ∙ rw (again_new ws txt w v x m.last k.entry r.given r.last (λ n. rw k.branch_is at (f n))) in
-        subst (λ (es : List Entry). GivesIn ws txt w v x p m es step) (sym e) d
+        k.splits ∙ rw (again_new ws txt w v x m''.last k.entry r.given last (λ n. rw k.branch_is at (f n))) in
+        subst (λ (es : List Entry). GivesIn ws txt w v x p m es (Some taken) (given_last m'' taken.branch)) (sym e) d

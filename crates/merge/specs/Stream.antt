@@ -1,5 +1,5 @@
 -- The state of a merge, and the entries that it still gives.
-use Rattle.std.specs.Prelude.{ℕ, zero, suc, ◌+◌, ◌<◌, ◌≤◌, ◌≡◌, true, cond, eqb, length, get_or}
+use Rattle.std.specs.Prelude.{ℕ, zero, suc, ◌+◌, ◌<◌, ◌≤◌, ◌≡◌, true, cond, eqb, length, get_or, Option as Answer, Some, None}
 use mathlib.Core.List.{List, [], ◌∷◌, map, Memᴰ}
 use Rattle.std.proofs.Math.Option.{Option, none, some}
 use Rattle.source.specs.Limits.{heaviest_list}
@@ -13,18 +13,17 @@ use Rattle.source.specs.Forward.{held, popped, forward}
 use Rattle.source.specs.Forward.{found}
 use Rattle.memory.specs.Layout.{Which, tree, list, kind, what, key_at}
 use Rattle.memory.specs.Sound.{LinkOk, At}
-use Rattle.merge_heads.specs.Compare.{Begun}
-use Rattle.merge_heap.specs.Cells.{count, Rep}
+use Rattle.merge_heads.specs.Compare.{roots, labels, heads, beginnings, Begun}
+use Rattle.merge_heap.specs.Cells.{children, nexts, count, Rep}
 use Rattle.find_tree.specs.Links.{branches, matches, after, BranchOf}
 use Rattle.find_list.specs.Entries.{Entry, entry_key, shown, outer, Asks}
 use Rattle.find_list.specs.Entries.{LabelOk}
 use Rattle.merge_collect.specs.Lists.{Full}
-use Rattle.merge.specs.declared.Start.{Start}
-use Rattle.merge.specs.declared.Cursor.{Cursor}
-use Rattle.merge.specs.declared.Taken.{Taken}
+use Rattle.merge.specs.declared.Given.{Given}
+use Rattle.merge.specs.declared.Merge.{Merge}
 
 -- The state of a merge: the cells of the heap, each with a tree, its current branch, the beginning of that one's key and its label, and the last branch given.
-pub record Merge : Type 0 where
+pub record State : Type 0 where
   pub roots : List ℕ
   pub heads : List ℕ
   pub beginnings : List ℕ
@@ -36,7 +35,7 @@ pub record Merge : Type 0 where
   pub last : ℕ
 
 -- The state of these cells.
-abbrev pub state : (roots heads beginnings labels child next : List ℕ) (n root last : ℕ) → Merge
+abbrev pub state : (roots heads beginnings labels child next : List ℕ) (n root last : ℕ) → State
 state roots heads beginnings labels child next n root last =
     record {
       roots = roots;
@@ -50,11 +49,20 @@ state roots heads beginnings labels child next n root last =
       last = last;
     }
 
--- A branch, 0 at the end, the collection of its outermost label, and the state after it.
-pub record Step : Type 0 where
-  pub branch : ℕ
-  pub label : ℕ
-  pub m : Merge
+-- The last branch given, 0 for none.
+abbrev pub last_link : Answer ℕ → ℕ
+last_link None = 0
+last_link (Some b) = b
+
+-- The state of a merge.
+abbrev pub state_of : Merge → State
+state_of m =
+    state (roots m.cells) (heads m.cells) (beginnings m.cells) (labels m.cells) (children m.heap.links) (nexts m.heap.links)
+    m.n m.heap.root (last_link m.last)
+
+-- The same state, but that the branch l was given last.
+abbrev pub given_last : State → ℕ → State
+given_last m l = state m.roots m.heads m.beginnings m.labels m.child m.next m.n m.root l
 
 -- The matches of a tree after a branch.
 abbrev pub later : (ws txt : List ℕ) (p : Str) (root head : ℕ) → List ℕ
@@ -85,7 +93,7 @@ pub record CellOk (ws txt : List ℕ) (w : Which) (ℓ : Level) (x : ℕ) (p : S
   pub label_ok : LabelOk ws w ℓ x label
 
 -- The state has the heap h of cells of the list x. A cell in the heap has its tree.
-pub record Holding (ws txt : List ℕ) (w : Which) (ℓ : Level) (x : ℕ) (p : Str) (m : Merge) (h : Heap ℕ) : Type 0 where
+pub record Holding (ws txt : List ℕ) (w : Which) (ℓ : Level) (x : ℕ) (p : Str) (m : State) (h : Heap ℕ) : Type 0 where
   pub here : At ws txt w (list ℓ) x
   pub few : m.n ≤ heaviest_list
   pub full : Full m.roots m.heads m.beginnings m.labels
@@ -96,7 +104,7 @@ pub record Holding (ws txt : List ℕ) (w : Which) (ℓ : Level) (x : ℕ) (p : 
   pub live : (j : ℕ) → 0 < count j h → 0 < get_or m.roots j 0
 
 -- The lists of a heap of cells.
-abbrev pub heap_of : (ws txt : List ℕ) (p : Str) (m : Merge) → Heap ℕ → Heap (Run Entry)
+abbrev pub heap_of : (ws txt : List ℕ) (p : Str) (m : State) → Heap ℕ → Heap (Run Entry)
 heap_of ws txt p m h = heap_map (run_at ws txt p m.roots m.heads m.labels) h
 
 -- The last entry given, by the link of its branch, 0 for none yet.
@@ -105,7 +113,7 @@ Last ws w ℓ x l none = l ≡ 0
 Last ws w ℓ x l (some e) = (e.branch ≡ l) × BranchOf ws w ℓ x l
 
 -- The state m still gives the entries es, of the list x.
-pub record Rest (ws txt : List ℕ) (w : Which) (ℓ : Level) (x : ℕ) (p : Str) (m : Merge) (es : List Entry) : Type 0 where
+pub record Rest (ws txt : List ℕ) (w : Which) (ℓ : Level) (x : ℕ) (p : Str) (m : State) (es : List Entry) : Type 0 where
   pub heap : Heap ℕ
   pub holding : Holding ws txt w ℓ x p m heap
   pub given : Option Entry
@@ -115,7 +123,7 @@ pub record Rest (ws txt : List ℕ) (w : Which) (ℓ : Level) (x : ℕ) (p : Str
   pub says : es ≡ forward (entry_key ws txt) fuel (heap_of ws txt p m heap) given
 
 -- The same, of some table, level, list and entries.
-pub record AnyRest (ws txt : List ℕ) (p : Str) (m : Merge) : Type 0 where
+pub record AnyRest (ws txt : List ℕ) (p : Str) (m : State) : Type 0 where
   pub which : Which
   pub level : Level
   pub link : ℕ
@@ -123,84 +131,82 @@ pub record AnyRest (ws txt : List ℕ) (p : Str) (m : Merge) : Type 0 where
   pub rest : Rest ws txt which level link p m entries
 
 -- At the start the entries show what is found.
-pub record StartIn (ws txt : List ℕ) (w : Which) (ℓ : Level) (x : ℕ) (p : Str) (m : Merge) : Type 0 where
+pub record StartIn (ws txt : List ℕ) (w : Which) (ℓ : Level) (x : ℕ) (p : Str) (m : State) : Type 0 where
   pub entries : List Entry
   pub rest : Rest ws txt w ℓ x p m entries
   pub says : (term : SearchTerm) (q : Option Str) → Asks term p q
       → map outer (found (what w ws txt x (list ℓ)) term) ≡ map (shown w ws txt ℓ q) entries
 
 -- The same, for any table and level that the list is of.
-abbrev pub Starts : (ws txt : List ℕ) (x : ℕ) (p : Str) (m : Merge) → Type 0
+abbrev pub Starts : (ws txt : List ℕ) (x : ℕ) (p : Str) (m : State) → Type 0
 Starts ws txt x p m = (w : Which) (ℓ : Level) → At ws txt w (list ℓ) x → StartIn ws txt w ℓ x p m
 
 -- How many branches a state has left.
-abbrev pub left_in : (ws txt : List ℕ) (p : Str) (m : Merge) → ℕ
+abbrev pub left_in : (ws txt : List ℕ) (p : Str) (m : State) → ℕ
 left_in ws txt p m = remaining ws txt p m.roots m.heads m.n
 
--- The first entry is given, a branch of a tree of the list, and the state gives the rest.
-pub record GivenIn (ws txt : List ℕ) (w : Which) (ℓ : Level) (x : ℕ) (p : Str) (m : Merge) (e : Entry) (es : List Entry)
-    (r : Step) : Type 0 where
+-- The first entry is given, a branch of a tree of the list, and the state m' gives the rest.
+pub record GivenIn (ws txt : List ℕ) (w : Which) (ℓ : Level) (x : ℕ) (p : Str) (m : State) (e : Entry) (es : List Entry)
+    (r : Given) (m' : State) : Type 0 where
   pub branch_is : r.branch ≡ e.branch
   pub label_is : r.label ≡ e.label
   pub branch : BranchOf ws w ℓ x r.branch
   pub begins : starts_with (key_at ws txt r.branch) p ≡ true
   pub label_ok : LabelOk ws w ℓ x r.label
-  pub rest : Rest ws txt w ℓ x p r.m es
-  pub fewer : left_in ws txt p r.m < left_in ws txt p m
+  pub rest : Rest ws txt w ℓ x p m' es
+  pub fewer : left_in ws txt p m' < left_in ws txt p m
 
--- What a step gives of the entries: branch 0 at the end.
-abbrev pub GivesIn : (ws txt : List ℕ) (w : Which) (ℓ : Level) (x : ℕ) (p : Str) (m : Merge) → List Entry → Step
-    → Type 0
-GivesIn ws txt w ℓ x p m [] r = r.branch ≡ 0
-GivesIn ws txt w ℓ x p m (e ∷ s) r = GivenIn ws txt w ℓ x p m e s r
+-- What a step gives of the entries, none at the end, and leaves.
+abbrev pub GivesIn : (ws txt : List ℕ) (w : Which) (ℓ : Level) (x : ℕ) (p : Str) (m : State) → List Entry → Answer Given
+    → State → Type 0
+GivesIn ws txt w ℓ x p m [] None m' = Unit
+GivesIn ws txt w ℓ x p m [] (Some r) m' = ⊥
+GivesIn ws txt w ℓ x p m (e ∷ s) None m' = ⊥
+GivesIn ws txt w ℓ x p m (e ∷ s) (Some r) m' = GivenIn ws txt w ℓ x p m e s r m'
 
 -- The same, of whatever the state gives.
-abbrev pub Gives : (ws txt : List ℕ) (p : Str) (m : Merge) (r : Step) → Type 0
-Gives ws txt p m r = (w : Which) (ℓ : Level) (x : ℕ) (es : List Entry) → Rest ws txt w ℓ x p m es
-    → GivesIn ws txt w ℓ x p m es r
+abbrev pub Gives : (ws txt : List ℕ) (p : Str) (m : State) → Answer Given → State → Type 0
+Gives ws txt p m r m' = (w : Which) (ℓ : Level) (x : ℕ) (es : List Entry) → Rest ws txt w ℓ x p m es
+    → GivesIn ws txt w ℓ x p m es r m'
 
 -- ---- One cell taken from the heap
 
--- The least cell c is taken, and the rest of its list put back.
-pub record TookCell (ws txt : List ℕ) (w : Which) (ℓ : Level) (x : ℕ) (p : Str) (m m' : Merge) (taken : Taken) (c : ℕ)
+-- The least cell c is taken, its branch and its label given, and the rest of its list put back.
+pub record TookCell (ws txt : List ℕ) (w : Which) (ℓ : Level) (x : ℕ) (p : Str) (m m' : State) (r : Given) (c : ℕ)
     (hh : Forest ℕ) : Type 0 where
-  pub cell_is : taken.cell ≡ c
   pub below : c < m.n
-  pub branch_is : taken.branch ≡ get_or m.heads c 0
+  pub branch_is : r.branch ≡ get_or m.heads c 0
+  pub label_is : r.label ≡ get_or m.labels c 0
   pub heap : Heap ℕ
   pub holding : Holding ws txt w ℓ x p m' heap
   pub heap_is : heap_of ws txt p m' heap
       ≡ popped (entry_key ws txt) (run_at ws txt p m.roots m.heads m.labels c)
       (forest_map (run_at ws txt p m.roots m.heads m.labels) hh)
-  pub fewer : remaining ws txt p m'.roots m'.heads m.n < remaining ws txt p m.roots m.heads m.n
+  pub fewer : left_in ws txt p m' < left_in ws txt p m
 
--- What is taken of a heap: cell 96 of the empty one.
-abbrev pub TookIn : (ws txt : List ℕ) (w : Which) (ℓ : Level) (x : ℕ) (p : Str) (m m' : Merge) (taken : Taken) → Heap ℕ
+-- What is taken of a heap: none of the empty one.
+abbrev pub TookIn : (ws txt : List ℕ) (w : Which) (ℓ : Level) (x : ℕ) (p : Str) (m m' : State) → Answer Given → Heap ℕ
     → Type 0
-TookIn ws txt w ℓ x p m m' taken EmptyHeap = taken.cell ≡ heaviest_list
-TookIn ws txt w ℓ x p m m' taken (HeapOf c hh) = TookCell ws txt w ℓ x p m m' taken c hh
+TookIn ws txt w ℓ x p m m' None EmptyHeap = Unit
+TookIn ws txt w ℓ x p m m' (Some r) EmptyHeap = ⊥
+TookIn ws txt w ℓ x p m m' None (HeapOf c hh) = ⊥
+TookIn ws txt w ℓ x p m m' (Some r) (HeapOf c hh) = TookCell ws txt w ℓ x p m m' r c hh
 
--- The same, for any labels and whatever heap the cells have.
-pub record Takes (ws txt : List ℕ) (p : Str) (n root : ℕ)
-    (roots heads beginnings child next roots' heads' beginnings' child' next' : List ℕ)
-    (taken : Taken) : Type 0 where
-  pub took : (labels : List ℕ) (last : ℕ) (w : Which) (ℓ : Level) (x : ℕ) (h : Heap ℕ)
-      → Holding ws txt w ℓ x p (state roots heads beginnings labels child next n root last) h
-      → TookIn ws txt w ℓ x p (state roots heads beginnings labels child next n root last)
-      (state roots' heads' beginnings' labels child' next' n taken.root last) taken h
+-- The same, for whatever heap the cells have. The last branch given stays.
+pub record Takes (ws txt : List ℕ) (p : Str) (m m' : State) (taken : Answer Given) : Type 0 where
+  pub took : (w : Which) (ℓ : Level) (x : ℕ) (h : Heap ℕ) → Holding ws txt w ℓ x p m h
+      → TookIn ws txt w ℓ x p m m' taken h
+  pub last_is : m'.last ≡ m.last
 
 -- The cells have some heap.
-pub record CellsReady (ws txt : List ℕ) (p : Str) (n root : ℕ)
-    (roots heads beginnings child next : List ℕ) : Type 0 where
-  pub labels : List ℕ
-  pub last : ℕ
+pub record CellsReady (ws txt : List ℕ) (p : Str) (m : State) : Type 0 where
   pub which : Which
   pub level : Level
   pub link : ℕ
   pub heap : Heap ℕ
-  pub holding : Holding ws txt which level link p (state roots heads beginnings labels child next n root last) heap
+  pub holding : Holding ws txt which level link p m heap
 
--- ---- The contracts: labels are read by the caller
+-- ---- The start
 
 -- The merge of a list of one tree with a match shows what is found by the tree's matches.
 pub record OneTree (ws txt : List ℕ) (w : Which) (ℓ : Level) (x : ℕ) (p : Str) (root label : ℕ) : Type 0 where
@@ -210,26 +216,8 @@ pub record OneTree (ws txt : List ℕ) (w : Which) (ℓ : Level) (x : ℕ) (p : 
       → map outer (found (what w ws txt x (list ℓ)) term)
       ≡ map (shown w ws txt ℓ q) (map (λ b. record { branch = b; label = label }) (matches ws txt root p))
 
-pub record Begins (ws txt : List ℕ) (p : Str) (x : ℕ) (roots heads beginnings labels : List ℕ)
-    (r : Start) : Type 0 where
-  pub starts : Starts ws txt x p (state roots heads beginnings labels r.child r.next r.n r.root 0)
+-- The merge gives what is found in the list x.
+pub record Begins (ws txt : List ℕ) (p : Str) (x : ℕ) (r : Merge) : Type 0 where
+  pub starts : Starts ws txt x p (state_of r)
   pub one : r.n ≡ 1 → (w : Which) (ℓ : Level) → At ws txt w (list ℓ) x
-      → OneTree ws txt w ℓ x p (get_or roots 0 0) (get_or labels 0 0)
-
--- The cells, with some labels, still give some entries.
-pub record Stands (ws txt : List ℕ) (p : Str) (roots heads beginnings child next : List ℕ)
-    (turn : Cursor) : Type 0 where
-  pub labels : List ℕ
-  pub any : AnyRest ws txt p (state roots heads beginnings labels child next turn.n turn.root turn.last)
-
--- The next entry is given, whatever the labels.
-pub record Steps (ws txt : List ℕ) (p : Str) (roots heads beginnings child next : List ℕ) (turn : Cursor)
-    (roots' heads' beginnings' child' next' : List ℕ) (r : Taken) : Type 0 where
-  pub small : (r.branch ≡ 0 → ⊥) → r.cell < heaviest_list
-  pub gives : (labels : List ℕ)
-      → Gives ws txt p (state roots heads beginnings labels child next turn.n turn.root turn.last)
-      (record {
-        branch = r.branch;
-        label = get_or labels r.cell 0;
-        m = state roots' heads' beginnings' labels child' next' turn.n r.root r.branch;
-      })
+      → OneTree ws txt w ℓ x p (get_or (roots r.cells) 0 0) (get_or (labels r.cells) 0 0)
