@@ -34,6 +34,7 @@ use Rattle.find_tree.proofs.After.{after_first}
 use Rattle.find_tree.proofs.Matches.{matches_none, matches_of, matches_increasing}
 use Rattle.find_list.specs.Entries.{Entry, entry_key, label_at, shown, outer, Asks}
 use Rattle.merge_collect.specs.Lists.{TreePart, elements, HasPart, HasParts, more, match_lists_in, CollectedIn, Collected}
+use Rattle.std.specs.Prelude.{None}
 use Rattle.merge.specs.Stream.{later, run_at, CellOk, Starts, state, OneTree}
 use Rattle.merge.proofs.Cells.{branch_head, cell_stands}
 use Rattle.memory.specs.Sound.{At}
@@ -225,7 +226,7 @@ module _ {ws txt : List ℕ} {p : Str} {x n : ℕ}
 
   pub merge_starts : {child next : List ℕ} {root : ℕ} → n ≤ 96
       → Rep n child next root (heap_from_list (cell_cmp ws txt heads) (first_cells n))
-      → Starts ws txt x p (state roots heads beginnings labels child next n root 0)
+      → Starts ws txt x p (state roots heads beginnings labels child next n root None)
   unfolding match_lists
   merge_starts {child} {next} {root} few rep w ℓ t =
       let s = collected w ℓ t in
@@ -250,7 +251,7 @@ module _ {ws txt : List ℕ} {p : Str} {x n : ℕ}
             live = λ j l. part_live t (has_cell t j (counted_all (λ i. i < n) j h (rep_below n child next few rep) l));
           };
           given = none;
-          last = refl;
+          last = tt;
           fuel = fuel;
           enough = omega (arith, ap held same_heap, held_map (entry_of ws txt) (built (match_key ws txt) r n));
           says = refl;

@@ -22,28 +22,30 @@ use Rattle.find_list.specs.Entries.{LabelOk}
 use Rattle.merge.specs.Stream.{State, given_last, run_at, Holding, heap_of, Last, Rest, AnyRest, left_in, GivenIn, GivesIn, Gives, Takes}
 use Rattle.merge.specs.Stream.{CellsReady}
 use Rattle.merge.specs.declared.Given.{Given}
-use Rattle.std.specs.Prelude.{Some, None}
+use Rattle.std.specs.Prelude.{Option as Maybe, Some, None}
 use Rattle.merge.proofs.Cells.{cell_branch_tree}
 
 -- Whether an entry has the key of the last one.
-module _ (ws txt : List ℕ) (w : Which) (ℓ : Level) (x l : ℕ) (e : Entry) where
-  again_new : (given : Option Entry) → Last ws w ℓ x l given
-      → ((l ≡ 0 → ⊥) → same (key_at ws txt e.branch) (key_at ws txt l) ≡ false)
+module _ (ws txt : List ℕ) (w : Which) (ℓ : Level) (x : ℕ) (e : Entry) where
+  again_new : (last : Maybe ℕ) (given : Option Entry) → Last ws w ℓ x last given
+      → ((l : ℕ) → last ≡ Some l → same (key_at ws txt e.branch) (key_at ws txt l) ≡ false)
       → again (entry_key ws txt) e given ≡ false
   unfolding again
-  again_new none g f = refl
-  again_new (some y) g f = rw g.0 (f (λ z. omega (arith, g.1.some)))
+  again_new None none g f = refl
+  again_new None (some y) g f = absurd g
+  again_new (Some l) none g f = absurd g
+  again_new (Some l) (some y) g f = rw g.0 (f l refl)
 
-  again_same : (given : Option Entry) → Last ws w ℓ x l given → (l ≡ 0 → ⊥)
+  again_same : (l : ℕ) (given : Option Entry) → Last ws w ℓ x (Some l) given
       → same (key_at ws txt e.branch) (key_at ws txt l) ≡ true → again (entry_key ws txt) e given ≡ true
   unfolding again
-  again_same none g n f = absurd (n g)
-  again_same (some y) g n f = rw g.0 f
+  again_same l none g f = absurd g
+  again_same l (some y) g f = rw g.0 f
 
-last_branch : (ws : List ℕ) (w : Which) (ℓ : Level) (x l : ℕ) (given : Option Entry) → Last ws w ℓ x l given
-    → (l ≡ 0 → ⊥) → BranchOf ws w ℓ x l
-last_branch ws w ℓ x l none g n = absurd (n g)
-last_branch ws w ℓ x l (some y) g n = g.1
+last_branch : (ws : List ℕ) (w : Which) (ℓ : Level) (x l : ℕ) (given : Option Entry) → Last ws w ℓ x (Some l) given
+    → BranchOf ws w ℓ x l
+last_branch ws w ℓ x l none g = absurd g
+last_branch ws w ℓ x l (some y) g = g.1
 
 module _ {ws txt : List ℕ} {p : Str} {m m' : State} {w : Which} {ℓ : Level} {x : ℕ} {es : List Entry}
     (g : Rest ws txt w ℓ x p m es) where
@@ -153,10 +155,11 @@ module _ {ws txt : List ℕ} {p : Str} {m m' : State} (o : Passing ws txt p m m'
     pub passing_branch : (0 < taken.branch) × AnyTree ws txt taken.branch
     passing_branch = let k = merge_steps takes now_rest in cell_branch_tree now_rest.holding.here k.branch
 
-    pub passing_last : (l : ℕ) → m''.last ≡ l → (l ≡ 0 → ⊥) → (0 < l) × AnyTree ws txt l
-    passing_last l e n =
+    pub passing_last : {l : ℕ} → m''.last ≡ Some l → (0 < l) × AnyTree ws txt l
+    passing_last {l} e =
         cell_branch_tree now_rest.holding.here
-        (last_branch ws y.which y.level y.link l now_rest.given (rw (← e, takes.last_is) now_rest.last) n)
+        (last_branch ws y.which y.level y.link l now_rest.given
+        (subst (λ (s : Maybe ℕ). Last ws y.which y.level y.link s now_rest.given) (sym takes.last_is ∙ e) now_rest.last))
 
 module _ {ws txt : List ℕ} {p : Str} {m m' m'' : State} (o : Passing ws txt p m m') where
   pub passing_end : Takes ws txt p m' m'' None → Gives ws txt p m None m''
@@ -164,20 +167,20 @@ module _ {ws txt : List ℕ} {p : Str} {m m' m'' : State} (o : Passing ws txt p 
       subst (λ (es : List Entry). GivesIn ws txt w v x p m es None m'') (sym (step_end (o.says w v x es g) takes)) tt
 
   module _ {taken : Given} (takes : Takes ws txt p m' m'' (Some taken)) where
-    pub passing_on : left_in ws txt p m'' < left_in ws txt p m' → (m''.last ≡ 0 → ⊥)
-        → same (key_at ws txt taken.branch) (key_at ws txt m''.last) ≡ true
+    pub passing_on : left_in ws txt p m'' < left_in ws txt p m' → {l : ℕ} → m''.last ≡ Some l
+        → same (key_at ws txt taken.branch) (key_at ws txt l) ≡ true
         → Passing ws txt p m m''
-    passing_on f n e = record {
+    passing_on f {l} h e = record {
       says = λ w v x es g.
           let r = o.says w v x es g in
           let k = merge_steps takes r in
-          let last : Last ws w v x m''.last r.given = rw takes.last_is r.last in
+          let last : Last ws w v x (Some l) r.given = rw (← takes.last_is, h) at r.last in
           subst (λ (es : List Entry). Rest ws txt w v x p m'' es)
-          (sym (k.splits ∙ rw (again_same ws txt w v x m''.last k.entry r.given last n (rw k.branch_is at e)))) k.passed_rest;
+          (sym (k.splits ∙ rw (again_same ws txt w v x k.entry l r.given last (rw k.branch_is at e)))) k.passed_rest;
       fewer = omega (arith, o.fewer);
     }
 
-    pub passing_gives : ((m''.last ≡ 0 → ⊥) → same (key_at ws txt taken.branch) (key_at ws txt m''.last) ≡ false)
+    pub passing_gives : ((l : ℕ) → m''.last ≡ Some l → same (key_at ws txt taken.branch) (key_at ws txt l) ≡ false)
         → Gives ws txt p m (Some taken) (given_last m'' taken.branch)
     passing_gives f w v x es g =
         let r = o.says w v x es g in
@@ -194,5 +197,5 @@ module _ {ws txt : List ℕ} {p : Str} {m m' m'' : State} (o : Passing ws txt p 
           fewer = omega (arith, o.fewer, k.fewer);
         } in
         let e : es ≡ k.entry ∷ k.after =
-        k.splits ∙ rw (again_new ws txt w v x m''.last k.entry r.given last (λ n. rw k.branch_is at (f n))) in
+        k.splits ∙ rw (again_new ws txt w v x k.entry m''.last r.given last (λ l h. rw k.branch_is at (f l h))) in
         subst (λ (es : List Entry). GivesIn ws txt w v x p m es (Some taken) (given_last m'' taken.branch)) (sym e) d

@@ -32,10 +32,10 @@ pub record State : Type 0 where
   pub next : List ℕ
   pub n : ℕ
   pub root : ℕ
-  pub last : ℕ
+  pub last : Answer ℕ
 
 -- The state of these cells.
-abbrev pub state : (roots heads beginnings labels child next : List ℕ) (n root last : ℕ) → State
+abbrev pub state : (roots heads beginnings labels child next : List ℕ) (n root : ℕ) → Answer ℕ → State
 state roots heads beginnings labels child next n root last =
     record {
       roots = roots;
@@ -49,20 +49,15 @@ state roots heads beginnings labels child next n root last =
       last = last;
     }
 
--- The last branch given, 0 for none.
-abbrev pub last_link : Answer ℕ → ℕ
-last_link None = 0
-last_link (Some b) = b
-
 -- The state of a merge.
 abbrev pub state_of : Merge → State
 state_of m =
     state (roots m.cells) (heads m.cells) (beginnings m.cells) (labels m.cells) (children m.heap.links) (nexts m.heap.links)
-    m.n m.heap.root (last_link m.last)
+    m.n m.heap.root m.last
 
 -- The same state, but that the branch l was given last.
 abbrev pub given_last : State → ℕ → State
-given_last m l = state m.roots m.heads m.beginnings m.labels m.child m.next m.n m.root l
+given_last m l = state m.roots m.heads m.beginnings m.labels m.child m.next m.n m.root (Some l)
 
 -- The matches of a tree after a branch.
 abbrev pub later : (ws txt : List ℕ) (p : Str) (root head : ℕ) → List ℕ
@@ -107,10 +102,12 @@ pub record Holding (ws txt : List ℕ) (w : Which) (ℓ : Level) (x : ℕ) (p : 
 abbrev pub heap_of : (ws txt : List ℕ) (p : Str) (m : State) → Heap ℕ → Heap (Run Entry)
 heap_of ws txt p m h = heap_map (run_at ws txt p m.roots m.heads m.labels) h
 
--- The last entry given, by the link of its branch, 0 for none yet.
-abbrev pub Last : (ws : List ℕ) (w : Which) (ℓ : Level) (x l : ℕ) → Option Entry → Type 0
-Last ws w ℓ x l none = l ≡ 0
-Last ws w ℓ x l (some e) = (e.branch ≡ l) × BranchOf ws w ℓ x l
+-- The last entry given, by the link of its branch, none for none yet.
+abbrev pub Last : (ws : List ℕ) (w : Which) (ℓ : Level) (x : ℕ) → Answer ℕ → Option Entry → Type 0
+Last ws w ℓ x None none = Unit
+Last ws w ℓ x None (some e) = ⊥
+Last ws w ℓ x (Some l) none = ⊥
+Last ws w ℓ x (Some l) (some e) = (e.branch ≡ l) × BranchOf ws w ℓ x l
 
 -- The state m still gives the entries es, of the list x.
 pub record Rest (ws txt : List ℕ) (w : Which) (ℓ : Level) (x : ℕ) (p : Str) (m : State) (es : List Entry) : Type 0 where

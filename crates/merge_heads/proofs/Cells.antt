@@ -1,12 +1,22 @@
--- The cells as four lists, when one is changed.
+-- The cells as four lists, when one is read and when one is changed.
 use Prim.Native.Nat.{ℕ}
 use mathlib.Core.Path.{◌≡◌, refl, ap, ◌∙◌}
 use mathlib.Core.List.{List}
-use lib.ListN.{get_or, length, length-map, set}
+use lib.ListN.{get_or, get_or-map, set}
 use lib.Seq.{map-set, map-set_same}
 use Rattle.merge_heads.specs.declared.Cell.{Cell}
 use Rattle.merge_heads.specs.Compare.{roots, labels, heads, beginnings, with_beginning, HeadSet}
 use Rattle.merge_heads.proofs.Heads.{empty}
+
+module _ (cells : List Cell) (c : ℕ) where
+  pub root_at : get_or (roots cells) c 0 ≡ (get_or cells c empty).root
+  root_at = get_or-map (λ x. x.root) cells c empty
+
+  pub label_at : get_or (labels cells) c 0 ≡ (get_or cells c empty).label
+  label_at = get_or-map (λ x. x.label) cells c empty
+
+  pub head_at : get_or (heads cells) c 0 ≡ (get_or cells c empty).head
+  head_at = get_or-map (λ x. x.head) cells c empty
 
 -- The cell c with another tree, and with another label.
 abbrev pub with_root : List Cell → (c r : ℕ) → List Cell

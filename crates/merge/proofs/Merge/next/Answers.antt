@@ -1,0 +1,53 @@
+-- `merge::Merge::next` meets its contract. The loop passes over cells with the key of the last entry; the measure is how many branches the cells have left.
+use mathlib.Core.Path.{◌≡◌, sym, ◌∙◌}
+use mathlib.Core.Bool.{false, true≢false}
+use Prim.Native.Nat.{ℕ}
+use Rattle.std.proofs.Common.{Some}
+use Rattle.std.proofs.lemmas.Option.{none-some, same_Some}
+use Rattle.source.specs.Shared.{same}
+use Rattle.memory.specs.Layout.{key_at}
+use Rattle.merge.proofs.Steps.{passing_ready, passing_end, passing_fewer, passing_branch, passing_last, passing_on, passing_gives}
+use Rattle.merge.proofs.Merge.next.Goals as goal
+use Rattle.merge.proofs.Merge.next.Goals.{in-Some-last, in-None}
+
+pub take-requires : goal.take-requires
+take-requires c =
+    passing_ready c.loop-given.invariant c.requires
+
+pub same_key-again-requires-clause-a_nonzero : goal.same_key-again-requires-clause-a_nonzero
+same_key-again-requires-clause-a_nonzero c =
+    passing_branch c.loop-given.invariant c.requires (rw c.in-Some.is at c.take.ensures)
+
+pub same_key-again-requires-clause-b_nonzero : goal.same_key-again-requires-clause-b_nonzero
+same_key-again-requires-clause-b_nonzero c =
+    passing_last c.loop-given.invariant c.requires (rw c.in-Some.is at c.take.ensures) c.in-Some-last.is
+
+pub returns-then-not-again : goal.returns-then-not-again
+returns-then-not-again c =
+    let words = c.args.words.now in
+    let text = c.args.text.now in
+    let new : (l : ℕ) → c.take.new.self.last ≡ Some l
+    → same (key_at words text c.in-Some.given.branch) (key_at words text l) ≡ false =
+    elim c.match-self.branch [
+      | in-Some-last w ↦ λ l e. rw (same_Some w.in-Some-last.last l (sym w.in-Some-last.is ∙ e)) at (sym w.same_key-again.ensures ∙ sym w.again-is ∙ c.if-not-again.true)
+      | in-None w ↦ λ l e. absurd (none-some l (sym w.in-None.is ∙ e))
+    ] in
+    passing_gives c.loop-given.invariant (rw c.in-Some.is at c.take.ensures) new
+
+pub loop-given-smaller : goal.loop-given-smaller
+loop-given-smaller c =
+    passing_fewer c.loop-given.invariant c.requires (rw c.in-Some.is at c.take.ensures)
+
+pub loop-given-preserved : goal.loop-given-preserved
+loop-given-preserved c =
+    elim c.match-self.branch [
+      | in-Some-last w ↦
+          passing_on c.loop-given.invariant (rw c.in-Some.is at c.take.ensures)
+          (passing_fewer c.loop-given.invariant c.requires (rw c.in-Some.is at c.take.ensures)) w.in-Some-last.is
+          (sym w.same_key-again.ensures ∙ sym w.again-is ∙ c.if-not-again.false)
+      | in-None w ↦ absurd (true≢false (sym c.if-not-again.false ∙ w.again-is))
+    ]
+
+pub returns : goal.returns
+returns c =
+    passing_end c.loop-given.invariant (rw c.in_default.is at c.take.ensures)

@@ -1,0 +1,89 @@
+-- `merge::Merge::take` meets its contract.
+use native.Mathlib.Omega.{arith}
+use Rattle.merge_heads.proofs.Cells.{root_at, label_at, head_at, root_set, root_labels, root_heads, root_beginnings}
+use Rattle.merge.proofs.Cells.{heads_of}
+use Rattle.merge.proofs.Takes.{takes_none, least_cell, cell_small, next_asks, takes_last, next_in, insert_asks, takes_next}
+use Rattle.merge.proofs.Merge.take.Goals as goal
+
+pub pop-requires : goal.pop-requires
+pop-requires c =
+    let s = c.requires in
+    record { n = _; headed = heads_of s.holding; heap = s.heap; rep = s.holding.rep }
+
+pub returns-in_err-least : goal.returns-in_err-least
+returns-in_err-least c =
+    rw c.from_residual.ensures (takes_none (rw c.in_err-least.was at (c.pop.ensures _ c.requires.holding.few)))
+
+pub offset_bounds-self-least : goal.offset_bounds-self-least
+offset_bounds-self-least c =
+    omega (arith, cell_small (least_cell c.requires c.in_ok-least.was (c.pop.ensures _ c.requires.holding.few)))
+
+pub bounds-self-least : goal.bounds-self-least
+bounds-self-least c =
+    cell_small (least_cell c.requires c.in_ok-least.was (c.pop.ensures _ c.requires.holding.few))
+
+pub tree_next-after-requires-clause-any_tree : goal.tree_next-after-requires-clause-any_tree
+tree_next-after-requires-clause-any_tree c =
+    rw (root_at c.args.self.now.cells c.in_ok-least.least) at
+    (next_asks (least_cell c.requires c.in_ok-least.was (c.pop.ensures _ c.requires.holding.few))).0
+
+pub tree_next-after-requires-clause-fact : goal.tree_next-after-requires-clause-fact
+tree_next-after-requires-clause-fact c =
+    rw (root_at c.args.self.now.cells c.in_ok-least.least, head_at c.args.self.now.cells c.in_ok-least.least) at
+    (next_asks (least_cell c.requires c.in_ok-least.was (c.pop.ensures _ c.requires.holding.few))).1.0
+
+pub tree_next-after-requires-clause-prefix_value : goal.tree_next-after-requires-clause-prefix_value
+tree_next-after-requires-clause-prefix_value c =
+    rw (head_at c.args.self.now.cells c.in_ok-least.least) at
+    (next_asks (least_cell c.requires c.in_ok-least.was (c.pop.ensures _ c.requires.holding.few))).1.1
+
+pub offset_bounds-self-least-then-after-eq0 : goal.offset_bounds-self-least-then-after-eq0
+offset_bounds-self-least-then-after-eq0 c =
+    omega (arith, cell_small (least_cell c.requires c.in_ok-least.was (c.pop.ensures _ c.requires.holding.few)))
+
+pub bounds-self-least-then-after-eq0 : goal.bounds-self-least-then-after-eq0
+bounds-self-least-then-after-eq0 c =
+    cell_small (least_cell c.requires c.in_ok-least.was (c.pop.ensures _ c.requires.holding.few))
+
+pub set_head-requires-clause-text_in : goal.set_head-requires-clause-text_in
+set_head-requires-clause-text_in c =
+    let k = least_cell c.requires c.in_ok-least.was (c.pop.ensures _ c.requires.holding.few) in
+    (next_in k (rw (← root_at c.args.self.now.cells c.in_ok-least.least, ← head_at c.args.self.now.cells c.in_ok-least.least) at
+    c.tree_next-after.ensures) c.if-after-eq0.false).0
+
+pub set_head-requires-clause-cell_lt_heaviest_list : goal.set_head-requires-clause-cell_lt_heaviest_list
+set_head-requires-clause-cell_lt_heaviest_list c =
+    cell_small (least_cell c.requires c.in_ok-least.was (c.pop.ensures _ c.requires.holding.few))
+
+pub insert-requires-clause-root : goal.insert-requires-clause-root
+insert-requires-clause-root c =
+    let k = least_cell c.requires c.in_ok-least.was (c.pop.ensures _ c.requires.holding.few) in
+    rw (c.set_head.ensures.heads_are, c.set_head.ensures.beginnings_are)
+    (insert_asks k (rw (← root_at c.args.self.now.cells c.in_ok-least.least, ← head_at c.args.self.now.cells c.in_ok-least.least) at
+    c.tree_next-after.ensures) c.if-after-eq0.false).0
+
+pub insert-requires-clause-head : goal.insert-requires-clause-head
+insert-requires-clause-head c =
+    let k = least_cell c.requires c.in_ok-least.was (c.pop.ensures _ c.requires.holding.few) in
+    rw (c.set_head.ensures.heads_are, c.set_head.ensures.beginnings_are)
+    (insert_asks k (rw (← root_at c.args.self.now.cells c.in_ok-least.least, ← head_at c.args.self.now.cells c.in_ok-least.least) at
+    c.tree_next-after.ensures) c.if-after-eq0.false).1
+
+pub returns-then-after-eq0 : goal.returns-then-after-eq0
+returns-then-after-eq0 c =
+    let cells = c.args.self.now.cells in
+    let least = c.in_ok-least.least in
+    let k = least_cell c.requires c.in_ok-least.was (c.pop.ensures _ c.requires.holding.few) in
+    rw (root_set cells least 0, root_labels cells least 0, root_heads cells least 0, root_beginnings cells least 0, ← head_at cells least, ← label_at cells least)
+    (takes_last k (rw (← root_at c.args.self.now.cells c.in_ok-least.least, ← head_at c.args.self.now.cells c.in_ok-least.least) at
+    c.tree_next-after.ensures) c.if-after-eq0.true)
+
+pub returns-else-after-eq0 : goal.returns-else-after-eq0
+returns-else-after-eq0 c =
+    let cells = c.args.self.now.cells in
+    let least = c.in_ok-least.least in
+    let set = c.set_head.ensures in
+    let k = least_cell c.requires c.in_ok-least.was (c.pop.ensures _ c.requires.holding.few) in
+    rw (set.roots_are, set.labels_are, set.heads_are, set.beginnings_are, ← head_at cells least, ← label_at cells least)
+    (takes_next k (rw (← root_at c.args.self.now.cells c.in_ok-least.least, ← head_at c.args.self.now.cells c.in_ok-least.least) at
+    c.tree_next-after.ensures) c.if-after-eq0.false (rw set.heads_are at c.insert.ensures))
