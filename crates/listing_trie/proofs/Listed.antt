@@ -34,7 +34,8 @@ use Rattle.find_list.specs.Names.{AnyList}
 use Rattle.find_list.specs.Entries.{Entry, shown, outer, Asks, by_prefix}
 use Rattle.find_list.specs.Entries.{LabelOk}
 use Rattle.merge.specs.Stream as M
-use Rattle.merge.specs.Stream.{Merge, Step, later, left_in, AnyRest, Starts, Gives, OneTree}
+use Rattle.merge.specs.Stream.{State, later, left_in, AnyRest, Starts, Gives, OneTree}
+use Rattle.merge.specs.declared.Given.{Given}
 use Rattle.merge.proofs.Rest.{rest_any, gives_end, gives_more}
 use Rattle.listing_output.specs.declared.run.Tally.{Tally}
 use Rattle.listing_output.specs.declared.run.Limits.{Limits}
@@ -358,7 +359,7 @@ module _ {ws txt : List ℕ} {query : Str} {place : Search} {run : Run} {x root 
 -- ---- A merge
 
 module _ (ws txt : List ℕ) (query : Str) (place : Search) (x : ℕ) (run run' : Run) (flat flat' out out' : List ℕ)
-    (m : Merge) where
+    (m : State) where
   -- The run over a list has come to what the state m gives.
   pub record Merging : Type 0 where
     pub same : SamePath run run'
@@ -374,7 +375,7 @@ module _ (ws txt : List ℕ) (query : Str) (place : Search) (x : ℕ) (run run' 
         run.tally run'.tally flat flat' out out' all entries
 
 module _ {ws txt : List ℕ} {query : Str} {place : Search} {x : ℕ} {run : Run} where
-  pub merging_first : {flat out : List ℕ} {m : Merge} → ListAsked ws txt query place run x
+  pub merging_first : {flat out : List ℕ} {m : State} → ListAsked ws txt query place run x
       → Starts ws txt x (take place.cut.len query) m → Merging ws txt query place x run run flat flat out out m
   merging_first r s =
       let k = s (asked place.cut.want.ask) (level_of place.leaf) r.can.list_at in
@@ -390,68 +391,68 @@ module _ {ws txt : List ℕ} {query : Str} {place : Search} {x : ℕ} {run : Run
             (list_room r.can (take place.cut.len query) k.entries k.says);
       }
 
-  module _ {run' : Run} {flat flat' out out' : List ℕ} {m : Merge}
+  module _ {run' : Run} {flat flat' out out' : List ℕ} {m : State}
       (g : Merging ws txt query place x run run' flat flat' out out' m) where
     pub merging_any : AnyRest ws txt (take place.cut.len query) m
     merging_any = rest_any g.gives
 
-    module _ {s : Step} (f : Gives ws txt (take place.cut.len query) m s) where
+    pub merging_done : {m' : State} → Gives ws txt (take place.cut.len query) m None m'
+        → ListListed ws txt query place run run' flat flat' out out' x
+    merging_done f = record { same = g.same; runs = entries_list g.says (left_none ws txt _ _ _ _ _ _ (rw (gives_end g.gives f) at g.left)) }
+
+    module _ {s : Given} {m' : State} (f : Gives ws txt (take place.cut.len query) m (Some s) m') where
       abbrev pub given : Labelled
       given = record { link = s.branch; label = s.label }
 
-      pub merging_done : s.branch ≡ 0 → ListListed ws txt query place run run' flat flat' out out' x
-      merging_done z = record { same = g.same; runs = entries_list g.says (left_none ws txt _ _ _ _ _ _ (rw (gives_end g.gives f z) at g.left)) }
+      pub merging_earlier : s.branch ≤ x
+      merging_earlier = omega (arith, (gives_more g.gives f).given.branch.link.earlier)
 
-      module _ (n : s.branch ≡ 0 → ⊥) where
-        pub merging_earlier : s.branch ≤ x
-        merging_earlier = omega (arith, (gives_more g.gives f n).given.branch.link.earlier)
+      pub merging_less : left_in ws txt (take place.cut.len query) m' < left_in ws txt (take place.cut.len query) m
+      merging_less = (gives_more g.gives f).given.fewer
 
-        pub merging_less : left_in ws txt (take place.cut.len query) s.m < left_in ws txt (take place.cut.len query) m
-        merging_less = (gives_more g.gives f n).given.fewer
+      pub merging_branch : ListAsked ws txt query place run x
+          → BranchAsked ws txt (drop place.cut.next query) place.cut.want place.leaf run' given
+      merging_branch r =
+          let k = gives_more g.gives f in
+          let t = r.can.list_at in
+          record {
+            told = r.place_ok.told;
+            can = branch_ready_at g.same (record {
+              ready = r.can.ready;
+              branch_at = record {
+                some = k.given.branch.some;
+                at = at_of t (tree _) (omega arith) k.given.branch.link;
+              };
+              label_at = record {
+                at = at_of t (list _) (omega arith) k.given.label_ok.link;
+                imports = k.given.label_ok.imports;
+              };
+              room = λ z. (rw k.is at (g.left.room z)).0;
+            });
+          }
 
-        pub merging_branch : ListAsked ws txt query place run x
-            → BranchAsked ws txt (drop place.cut.next query) place.cut.want place.leaf run' given
-        merging_branch r =
-            let k = gives_more g.gives f n in
-            let t = r.can.list_at in
+      module _ {run'' : Run} {flat'' out'' : List ℕ} {e : ℕ}
+          (b : BranchListed ws txt (drop place.cut.next query) place.cut.want
+          place.leaf run' run'' flat' flat'' out' out'' given e)
+          (lf : length flat'' ≡ length flat') (lo : length out'' ≡ length out') where
+        pub merging_next : Merging ws txt query place x run run'' flat flat'' out out'' m'
+        merging_next =
+            let k = gives_more g.gives f in
             record {
-              told = r.place_ok.told;
-              can = branch_ready_at g.same (record {
-                ready = r.can.ready;
-                branch_at = record {
-                  some = k.given.branch.some;
-                  at = at_of t (tree _) (omega arith) k.given.branch.link;
-                };
-                label_at = record {
-                  at = at_of t (list _) (omega arith) k.given.label_ok.link;
-                  imports = k.given.label_ok.imports;
-                };
-                room = λ z. (rw k.is at (g.left.room z)).0;
-              });
+              same = path_then g.same b.same;
+              all = g.all;
+              says = g.says;
+              entries = k.after;
+              gives = k.given.rest;
+              left = left_next ws txt _ _ _ _ _ _ (rw k.is at g.left)
+                  (branch_runs_at g.same b.runs) lf lo;
             }
 
-        module _ {run'' : Run} {flat'' out'' : List ℕ} {e : ℕ}
-            (b : BranchListed ws txt (drop place.cut.next query) place.cut.want
-            place.leaf run' run'' flat' flat'' out' out'' given e)
-            (lf : length flat'' ≡ length flat') (lo : length out'' ≡ length out') where
-          pub merging_next : Merging ws txt query place x run run'' flat flat'' out out'' s.m
-          merging_next =
-              let k = gives_more g.gives f n in
-              record {
-                same = path_then g.same b.same;
-                all = g.all;
-                says = g.says;
-                entries = k.after;
-                gives = k.given.rest;
-                left = left_next ws txt _ _ _ _ _ _ (rw k.is at g.left)
-                    (branch_runs_at g.same b.runs) lf lo;
-              }
-
-          pub merging_spent : run.limits.budget < e
-              → ListListed ws txt query place run run'' flat flat'' out out'' x
-          merging_spent z =
-              record {
-                same = merging_next.same;
-                runs = entries_list merging_next.says
-                    (left_spent ws txt _ _ _ _ _ _ merging_next.left (omega (arith, b.count)));
-              }
+        pub merging_spent : run.limits.budget < e
+            → ListListed ws txt query place run run'' flat flat'' out out'' x
+        merging_spent z =
+            record {
+              same = merging_next.same;
+              runs = entries_list merging_next.says
+                  (left_spent ws txt _ _ _ _ _ _ merging_next.left (omega (arith, b.count)));
+            }

@@ -10,7 +10,7 @@ use listing_annotation::Labelled;
 use listing_output::{Run, Want};
 use listing_step::Cut;
 use match_marks::Notes;
-use merge::Cursor;
+use merge::Merge;
 
 // Where a run stands in a trie: where the query is cut, and whether the list is of bindings.
 #[derive(Clone, Copy)]
@@ -121,63 +121,24 @@ fn list_merged(
     let budget = run.limits.budget;
     let len = place.cut.len;
     let rest = place.cut.next;
-    let mut roots = [0; merge::CELLS];
-    let mut heads = [0; merge::CELLS];
-    let mut beginnings = [0; merge::CELLS];
-    let mut labels = [0; merge::CELLS];
-    let start = merge::merge_start(
-        words,
-        text,
-        &query[0..len],
-        list,
-        &mut roots,
-        &mut heads,
-        &mut beginnings,
-        &mut labels,
-    );
-    let n = start.n;
-    if n == 1 {
+    let mut merge = Merge::new(words, text, &query[0..len], list);
+    if merge.n == 1 {
         let alone = Labelled {
-            link: roots[0],
-            label: labels[0],
+            link: merge.cells[0].root,
+            label: merge.cells[0].label,
         };
         list_tree(words, text, query, place, alone, run, flat, out);
         return;
     }
-    let mut child = start.child;
-    let mut next = start.next;
-    let mut turn = Cursor {
-        n: n,
-        root: start.root,
-        last: 0,
-    };
-    loop {
-        let t = merge::merge_next(
-            words,
-            text,
-            &query[0..len],
-            &mut roots,
-            &mut heads,
-            &mut beginnings,
-            &mut child,
-            &mut next,
-            turn,
-        );
-        let branch = t.branch;
-        if branch == 0 {
-            return;
-        }
-        let cell = t.cell;
+    while let Some(given) = merge.next(words, text, &query[0..len]) {
         let here = Labelled {
-            link: branch,
-            label: labels[cell],
+            link: given.branch,
+            label: given.label,
         };
         let entered = list_branch(words, text, &query[rest..], place, here, run, flat, out);
         if budget < entered {
             return;
         }
-        turn.root = t.root;
-        turn.last = branch;
     }
 }
 
@@ -200,8 +161,7 @@ fn list_names(
     if list == 0 {
         return;
     }
-    let root = merge::single(words, list);
-    if 0 < root {
+    if let Some(root) = merge::single(words, list) {
         let tree = Labelled {
             link: root,
             label: 0,

@@ -61,7 +61,8 @@ module _ {ws txt : List ℕ} {w : Which} {ℓ : Level} {x r : ℕ} (t : At ws tx
       shows [] = refl
       shows (b ∷ xs) = ap (◌∷◌ (shown w ws txt ℓ q (record { branch = b; label = 0 }))) (shows xs)
 
-pub single_one : {ws txt : List ℕ} {w : Which} {ℓ : Level} {x r : ℕ} (p : Str) → At ws txt w (list ℓ) x → Single ws x (Some r)
+pub single_one : {ws txt : List ℕ} {w : Which} {ℓ : Level} {x r : ℕ} (p : Str) → At ws txt w (list ℓ) x
+    → Single ws x (Some r)
     → OneTree ws txt w ℓ x p r 0
 single_one {txt = txt} {w} {ℓ} p t s =
     let o = s txt w ℓ t in

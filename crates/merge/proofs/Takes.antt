@@ -63,7 +63,8 @@ module _ {ws txt : List ℕ} {w : Which} {ℓ : Level} {x : ℕ} {p : Str} {m : 
       ≡ put_back (entry_key ws txt) (val c) (heap_map val others)
   popped_is =
       ap (put_back (entry_key ws txt) (val c))
-      (stands_pairs (entry_key ws txt) ws txt m.heads m.n val (λ j l. cell_stands ws txt p m.roots m.heads m.labels j) hh (rep_below m.n m.child m.next g.few g.rep).1)
+      (stands_pairs (entry_key ws txt) ws txt m.heads m.n val (λ j l. cell_stands ws txt p m.roots m.heads m.labels j) hh
+      (rep_below m.n m.child m.next g.few g.rep).1)
 
   -- Its list is at its end.
   module _ (rest : ℕ) (child' next' : List ℕ) (made : Makes m.n m.child m.next child' next' rest others)
@@ -144,13 +145,14 @@ module _ {ws txt : List ℕ} {w : Which} {ℓ : Level} {x : ℕ} {p : Str} {m : 
     val_next = rw (next_match.is_next, head_set)
 
     took_next : TookCell ws txt w ℓ x p m
-        (state m.roots (set m.heads c r) (with_beginning ws txt m.beginnings c r) m.labels child'' next'' m.n top m.last)
+        (state m.roots (set m.heads c r)
+        (with_beginning ws txt m.beginnings c r) m.labels child'' next'' m.n top m.last)
         (record { branch = get_or m.heads c 0; label = get_or m.labels c 0 }) c hh
     unfolding left heap_insert
     took_next =
         let q = inserted others made.rep free in
         record {
-              below = below;
+          below = below;
           branch_is = refl;
           label_is = refl;
           heap = heap_insert (cell_cmp ws txt (set m.heads c r)) others c;
@@ -318,7 +320,8 @@ module _ {ws txt : List ℕ} {p : Str} {m : State} {cell rest : ℕ} {child' nex
           → ((n : ℕ) → n ≤ 96 → cell < n
           → Inserts (cell_cmp ws txt (set m.heads cell r)) n child' next' child'' next'' top rest cell)
           → Takes ws txt p m
-          (state m.roots (set m.heads cell r) (with_beginning ws txt m.beginnings cell r) m.labels child'' next'' m.n top m.last)
+          (state m.roots (set m.heads cell r)
+          (with_beginning ws txt m.beginnings cell r) m.labels child'' next'' m.n top m.last)
           (Some (record { branch = get_or m.heads cell 0; label = get_or m.labels cell 0 }))
       takes_next {top} {child''} {next''} inserted =
           takes_some k.pops refl

@@ -13,6 +13,7 @@ use Rattle.source.specs.Forward.{held, popped, forward}
 use Rattle.source.specs.Forward.{found}
 use Rattle.memory.specs.Layout.{Which, tree, list, kind, what, key_at}
 use Rattle.memory.specs.Sound.{LinkOk, At}
+use Rattle.merge_heads.specs.declared.Cell.{Cell}
 use Rattle.merge_heads.specs.Compare.{roots, labels, heads, beginnings, Begun}
 use Rattle.merge_heap.specs.Cells.{children, nexts, count, Rep}
 use Rattle.find_tree.specs.Links.{branches, matches, after, BranchOf}
@@ -52,7 +53,8 @@ state roots heads beginnings labels child next n root last =
 -- The state of a merge.
 abbrev pub state_of : Merge → State
 state_of m =
-    state (roots m.cells) (heads m.cells) (beginnings m.cells) (labels m.cells) (children m.heap.links) (nexts m.heap.links)
+    state (roots m.cells) (heads m.cells) (beginnings m.cells) (labels m.cells) (children m.heap.links)
+    (nexts m.heap.links)
     m.n m.heap.root m.last
 
 -- The same state, but that the branch l was given last.
@@ -213,8 +215,12 @@ pub record OneTree (ws txt : List ℕ) (w : Which) (ℓ : Level) (x : ℕ) (p : 
       → map outer (found (what w ws txt x (list ℓ)) term)
       ≡ map (shown w ws txt ℓ q) (map (λ b. record { branch = b; label = label }) (matches ws txt root p))
 
+-- The first cell.
+abbrev pub first_cell : Merge → Cell
+first_cell m = get_or m.cells 0 (record { root = 0; label = 0; head = 0; beginning = 0 })
+
 -- The merge gives what is found in the list x.
 pub record Begins (ws txt : List ℕ) (p : Str) (x : ℕ) (r : Merge) : Type 0 where
   pub starts : Starts ws txt x p (state_of r)
   pub one : r.n ≡ 1 → (w : Which) (ℓ : Level) → At ws txt w (list ℓ) x
-      → OneTree ws txt w ℓ x p (get_or (roots r.cells) 0 0) (get_or (labels r.cells) 0 0)
+      → OneTree ws txt w ℓ x p (first_cell r).root (first_cell r).label

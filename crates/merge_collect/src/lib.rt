@@ -42,14 +42,15 @@ pub fn collect(
     if memory_access::sort_of(words, part.list) == memory::IMPORTED {
         let imported = LabelledList {
             list: own,
-            label: if part.label == 0 { part.list } else { part.label },
+            label: if part.label == 0 {
+                part.list
+            } else {
+                part.label
+            },
             at: part.at,
         };
         let mid = collect(words, text, prefix, imported, cells);
-        let after = LabelledList {
-            at: mid,
-            ..rest
-        };
+        let after = LabelledList { at: mid, ..rest };
         return collect(words, text, prefix, after, cells);
     }
     let first = match_next::tree_first(words, text, own, prefix);

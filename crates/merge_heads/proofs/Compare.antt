@@ -37,7 +37,8 @@ key_bytes ws txt x b =
     take_bytes (text_len (record_at ws x)) (drop at txt) (λ j. rw (get_or-drop at txt j 0) (b (at + j)))
 
 -- Cells whose beginnings are not the same stand as these do.
-pub by_beginning : {ws txt : List ℕ} (cells : List Cell) {a b : ℕ} → Bytes txt → Head ws txt (heads cells) (beginnings cells) a
+pub by_beginning : {ws txt : List ℕ} (cells : List Cell) {a b : ℕ} → Bytes txt
+    → Head ws txt (heads cells) (beginnings cells) a
     → Head ws txt (heads cells) (beginnings cells) b
     → (o : Order) → o ≡ nat_cmp (get_or cells a empty).beginning (get_or cells b empty).beginning → (o ≡ Equal → ⊥)
     → ordering o ≡ cell_cmp ws txt (heads cells) a b
@@ -57,21 +58,25 @@ by_beginning {ws} {txt} cells {a} {b} f h k o e ne = go o (ranked _ _ o e) ne
     at_b = get_or-map (λ c. c.beginning) cells b empty
 
     go : (o : Order) → MatchOrdering o ((get_or cells a empty).beginning < (get_or cells b empty).beginning)
-        ((get_or cells a empty).beginning ≡ (get_or cells b empty).beginning) ((get_or cells b empty).beginning < (get_or cells a empty).beginning)
+        ((get_or cells a empty).beginning ≡ (get_or cells b empty).beginning)
+        ((get_or cells b empty).beginning < (get_or cells a empty).beginning)
         → (o ≡ Equal → ⊥) → ordering o ≡ then (string_compare x y) (compare a b)
     go Less l n =
         let r : Before x y =
-        beginning_says x y (key_bytes ws txt (get_or (heads cells) a 0) f) (key_bytes ws txt (get_or (heads cells) b 0) f) (omega (arith, h.begun, k.begun, at_a, at_b)) in
+        beginning_says x y (key_bytes ws txt (get_or (heads cells) a 0) f) (key_bytes ws txt (get_or (heads cells) b 0) f)
+        (omega (arith, h.begun, k.begun, at_a, at_b)) in
         rw r.is_less
     go Equal l n = absurd (n refl)
     go Greater l n =
         let r : Before y x =
-        beginning_says y x (key_bytes ws txt (get_or (heads cells) b 0) f) (key_bytes ws txt (get_or (heads cells) a 0) f) (omega (arith, h.begun, k.begun, at_a, at_b)) in
+        beginning_says y x (key_bytes ws txt (get_or (heads cells) b 0) f) (key_bytes ws txt (get_or (heads cells) a 0) f)
+        (omega (arith, h.begun, k.begun, at_a, at_b)) in
         rw r.is_more
 
 -- Others by their keys, and by their places where those are the same.
 pub by_key : (ws txt : List ℕ) (cells : List Cell) (a b : ℕ) (o : Order) {r p : Order} → r ≡ ordering_then o p
-    → ordering o ≡ string_compare (key_at ws txt (get_or cells a empty).head) (key_at ws txt (get_or cells b empty).head)
+    → ordering o
+    ≡ string_compare (key_at ws txt (get_or cells a empty).head) (key_at ws txt (get_or cells b empty).head)
     → p ≡ nat_cmp a b → ordering r ≡ cell_cmp ws txt (heads cells) a b
 unfolding cell_cmp then
 by_key ws txt cells a b o {p = p} e f g =

@@ -32,13 +32,7 @@ pub const EMPTY: Cell = Cell {
 };
 
 // Gives a cell the head `branch`, with the beginning of its key.
-pub fn set_head(
-    words: &[u32],
-    text: &[u8],
-    cells: &mut [Cell; CELLS],
-    cell: usize,
-    branch: u32,
-)
+pub fn set_head(words: &[u32], text: &[u8], cells: &mut [Cell; CELLS], cell: usize, branch: u32)
     requires text_in { TextIn words.now text.now branch }
     requires cell_lt_heaviest_list { cell < heaviest_list }
     ensures { HeadSet words.now text.now cells.old cells.new cell branch }

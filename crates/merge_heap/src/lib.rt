@@ -50,7 +50,8 @@ impl Heap {
         requires root { Root words.now text.now (heads cells.now) (beginnings cells.now) a }
         requires root_2 { Root words.now text.now (heads cells.now) (beginnings cells.now) b }
         ensures { (n : ℕ) → n ≤ heaviest_list → Merges (cell_cmp words.now text.now (heads cells.now)) n
-            (children self.old.links) (nexts self.old.links) (children self.new.links) (nexts self.new.links) result a b }
+            (children self.old.links) (nexts self.old.links) (children self.new.links)
+            (nexts self.new.links) result a b }
     {
         if a == CELLS {
             return b;
@@ -70,7 +71,8 @@ impl Heap {
         requires root { Root words.now text.now (heads cells.now) (beginnings cells.now) self.old.root }
         requires head { Head words.now text.now (heads cells.now) (beginnings cells.now) v }
         ensures { (n : ℕ) → n ≤ heaviest_list → v < n → Inserts (cell_cmp words.now text.now (heads cells.now)) n
-            (children self.old.links) (nexts self.old.links) (children self.new.links) (nexts self.new.links) self.new.root self.old.root v }
+            (children self.old.links) (nexts self.old.links) (children self.new.links)
+            (nexts self.new.links) self.new.root self.old.root v }
     {
         self.links[v].child = NO_CELL;
         self.root = self.merge(words, text, cells, v, self.root);

@@ -91,74 +91,66 @@ list_tree-returns t c = stepping_done (rw c.in_default.is at c.loop-next.invaria
 
 -- ---- list_merged
 
-pub list_merged-merge_start-start-requires : goal.list_merged-merge_start-start-requires
-list_merged-merge_start-start-requires t c = record {
-  any_list = list_any c.requires.can;
-  full = record { of_roots = refl; of_heads = refl; of_beginnings = refl; of_labels = refl };
-}
+pub list_merged-new-merge-requires : goal.list_merged-new-merge-requires
+list_merged-new-merge-requires t c = list_any c.requires.can
 
 pub list_merged-list_tree-requires : goal.list_merged-list_tree-requires
 list_merged-list_tree-requires t c =
-    let o = (rw front_is at c.merge_start-start.ensures).one c.if-n-eq1.true _ _ c.requires.can.list_at in
+    let o = (rw front_is at c.new-merge.ensures).one c.if-merge-eq1.true _ _ c.requires.can.list_at in
     (omega (arith, one_earlier c.requires o), one_ready c.requires o)
 
-pub list_merged-returns-then-n-eq1 : goal.list_merged-returns-then-n-eq1
-list_merged-returns-then-n-eq1 t c =
-    one_runs c.requires ((rw front_is at c.merge_start-start.ensures).one c.if-n-eq1.true _ _ c.requires.can.list_at)
+pub list_merged-returns-then-merge-eq1 : goal.list_merged-returns-then-merge-eq1
+list_merged-returns-then-merge-eq1 t c =
+    one_runs c.requires ((rw front_is at c.new-merge.ensures).one c.if-merge-eq1.true _ _ c.requires.can.list_at)
     c.list_tree.ensures
 
-pub list_merged-loop-place-init : goal.list_merged-loop-place-init
-list_merged-loop-place-init t c = merging_first c.requires (rw front_is at c.merge_start-start.ensures).starts
+pub list_merged-loop-given-init : goal.list_merged-loop-given-init
+list_merged-loop-given-init t c = merging_first c.requires (rw front_is at c.new-merge.ensures).starts
 
-pub list_merged-merge_next-t-requires : goal.list_merged-merge_next-t-requires
-list_merged-merge_next-t-requires t c = rw front_is (record { labels = _; any = merging_any c.loop-place.invariant })
-
-pub list_merged-returns-then-branch-eq0 : goal.list_merged-returns-then-branch-eq0
-list_merged-returns-then-branch-eq0 t c =
-    merging_done c.loop-place.invariant ((rw front_is at c.merge_next-t.ensures).gives _) c.if-branch-eq0.true
-
-pub list_merged-offset_bounds-labels-cell : goal.list_merged-offset_bounds-labels-cell
-list_merged-offset_bounds-labels-cell t c = omega (arith, c.merge_next-t.ensures.small c.if-branch-eq0.false)
-
-pub list_merged-bounds-labels-cell : goal.list_merged-bounds-labels-cell
-list_merged-bounds-labels-cell t c = c.merge_next-t.ensures.small c.if-branch-eq0.false
+pub list_merged-next-requires : goal.list_merged-next-requires
+list_merged-next-requires t c = rw front_is (merging_any c.loop-given.invariant)
 
 pub list_merged-list_branch-entered-requires : goal.list_merged-list_branch-entered-requires
-list_merged-list_branch-entered-requires t c = (
-  omega (arith, merging_earlier c.loop-place.invariant ((rw front_is at c.merge_next-t.ensures).gives _) c.if-branch-eq0.false),
-  rw tail_is (merging_branch c.loop-place.invariant ((rw front_is at c.merge_next-t.ensures).gives _) c.if-branch-eq0.false c.requires),
-)
+list_merged-list_branch-entered-requires t c =
+    let f = rw (front_is, c.in-Some.is) at c.next.ensures in (
+      omega (arith, merging_earlier c.loop-given.invariant f),
+      rw tail_is (merging_branch c.loop-given.invariant f c.requires),
+    )
 
 pub list_merged-returns-then-budget-entered : goal.list_merged-returns-then-budget-entered
 list_merged-returns-then-budget-entered t c =
-    merging_spent c.loop-place.invariant ((rw front_is at c.merge_next-t.ensures).gives _) c.if-branch-eq0.false
+    merging_spent c.loop-given.invariant (rw (front_is, c.in-Some.is) at c.next.ensures)
     (rw tail_is at c.list_branch-entered.ensures) (search rules) (search rules) c.if-budget-entered.true
 
-pub list_merged-loop-place-smaller : goal.list_merged-loop-place-smaller
-list_merged-loop-place-smaller t c =
-    merging_less c.loop-place.invariant ((rw front_is at c.merge_next-t.ensures).gives _) c.if-branch-eq0.false
+pub list_merged-loop-given-smaller : goal.list_merged-loop-given-smaller
+list_merged-loop-given-smaller t c =
+    merging_less c.loop-given.invariant (rw (front_is, c.in-Some.is) at c.next.ensures)
 
-pub list_merged-loop-place-preserved : goal.list_merged-loop-place-preserved
-list_merged-loop-place-preserved t c =
-    merging_next c.loop-place.invariant ((rw front_is at c.merge_next-t.ensures).gives _) c.if-branch-eq0.false
+pub list_merged-loop-given-preserved : goal.list_merged-loop-given-preserved
+list_merged-loop-given-preserved t c =
+    merging_next c.loop-given.invariant (rw (front_is, c.in-Some.is) at c.next.ensures)
     (rw tail_is at c.list_branch-entered.ensures) (search rules) (search rules)
+
+pub list_merged-returns : goal.list_merged-returns
+list_merged-returns t c =
+    merging_done c.loop-given.invariant (rw (front_is, c.in_default.is) at c.next.ensures)
 
 -- ---- list_names
 
 pub list_names-returns-then-list-eq0 : goal.list_names-returns-then-list-eq0
 list_names-returns-then-list-eq0 t c = none_runs c.if-list-eq0.true
 
-pub list_names-single-root-requires : goal.list_names-single-root-requires
-list_names-single-root-requires t c = at_fits c.requires.can.list_at
+pub list_names-single-requires : goal.list_names-single-requires
+list_names-single-requires t c = at_fits c.requires.can.list_at
 
 pub list_names-list_tree-requires : goal.list_names-list_tree-requires
 list_names-list_tree-requires t c =
-    let o = single_one _ c.requires.can.list_at c.single-root.ensures c.if-root-gt0.true in
+    let o = single_one _ c.requires.can.list_at (rw c.in-Some.is at c.single.ensures) in
     (omega (arith, one_earlier c.requires o), one_ready c.requires o)
 
-pub list_names-returns-then-root-gt0 : goal.list_names-returns-then-root-gt0
-list_names-returns-then-root-gt0 t c =
-    one_runs c.requires (single_one _ c.requires.can.list_at c.single-root.ensures c.if-root-gt0.true) c.list_tree.ensures
+pub list_names-returns-in-Some : goal.list_names-returns-in-Some
+list_names-returns-in-Some t c =
+    one_runs c.requires (single_one _ c.requires.can.list_at (rw c.in-Some.is at c.single.ensures)) c.list_tree.ensures
 
 pub list_names-list_merged-requires : goal.list_names-list_merged-requires
 list_names-list_merged-requires t c = (omega arith, c.requires)

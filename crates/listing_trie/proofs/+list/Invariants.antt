@@ -1,5 +1,5 @@
 use Rattle.std.proofs.Common.{◌+◌, ◌*◌, length, take}
-use Rattle.merge.specs.Stream.{state, left_in}
+use Rattle.merge.specs.Stream.{state_of, left_in}
 use Rattle.listing_trie.proofs.Listed.{onward, Stepping, Merging}
 use Rattle.listing_trie.proofs.+list.Given as goal
 
@@ -28,15 +28,13 @@ abbrev pub decreases-list_trie : goal.decreases-list_trie
 decreases-list_trie l =
     6 * l.trie + 5
 
-abbrev pub invariant-list_merged-loop-place : goal.invariant-list_merged-loop-place
-invariant-list_merged-loop-place l =
-    Merging l.words l.text l.query l.place l.list l.fn.run l.run l.fn.flat l.flat l.fn.out l.out
-    (state l.roots l.heads l.beginnings l.labels l.child l.next l.turn.n l.turn.root l.turn.last)
+abbrev pub invariant-list_merged-loop-given : goal.invariant-list_merged-loop-given
+invariant-list_merged-loop-given l =
+    Merging l.words l.text l.query l.place l.list l.fn.run l.run l.fn.flat l.flat l.fn.out l.out (state_of l.merge)
 
-abbrev pub decreases-list_merged-loop-place : goal.decreases-list_merged-loop-place
-decreases-list_merged-loop-place l =
-    left_in l.words l.text (take l.place.cut.len l.query)
-    (state l.roots l.heads l.beginnings l.labels l.child l.next l.turn.n l.turn.root l.turn.last)
+abbrev pub decreases-list_merged-loop-given : goal.decreases-list_merged-loop-given
+decreases-list_merged-loop-given l =
+    left_in l.words l.text (take l.place.cut.len l.query) (state_of l.merge)
 
 abbrev pub invariant-list_tree-loop-next : goal.invariant-list_tree-loop-next
 invariant-list_tree-loop-next l =

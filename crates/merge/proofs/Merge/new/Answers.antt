@@ -1,6 +1,7 @@
 -- `merge::Merge::new` meets its contract.
 use native.Mathlib.Omega.{arith}
 use Rattle.find_list.proofs.Collections.{list_light}
+use Rattle.merge_heads.proofs.Cells.{root_at, label_at}
 use Rattle.merge.proofs.Starts.{start_heads, merge_starts, starts_one}
 use Rattle.merge.proofs.Merge.new.Goals as goal
 
@@ -18,5 +19,6 @@ returns c =
       starts =
           merge_starts collect.collected (omega (arith, collect.upper_bound, list_light c.requires.list))
           c.from_list-heap.ensures;
-      one = starts_one collect.collected;
+      one = λ e w v t.
+          rw (root_at c.collect-n.new.cells 0, label_at c.collect-n.new.cells 0) at (starts_one collect.collected e w v t);
     }

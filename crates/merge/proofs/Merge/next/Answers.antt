@@ -29,7 +29,8 @@ returns-then-not-again c =
     let new : (l : ℕ) → c.take.new.self.last ≡ Some l
     → same (key_at words text c.in-Some.given.branch) (key_at words text l) ≡ false =
     elim c.match-self.branch [
-      | in-Some-last w ↦ λ l e. rw (same_Some w.in-Some-last.last l (sym w.in-Some-last.is ∙ e)) at (sym w.same_key-again.ensures ∙ sym w.again-is ∙ c.if-not-again.true)
+      | in-Some-last w ↦ λ l e. rw (same_Some w.in-Some-last.last l (sym w.in-Some-last.is ∙ e)) at
+          (sym w.same_key-again.ensures ∙ sym w.again-is ∙ c.if-not-again.true)
       | in-None w ↦ λ l e. absurd (none-some l (sym w.in-None.is ∙ e))
     ] in
     passing_gives c.loop-given.invariant (rw c.in-Some.is at c.take.ensures) new

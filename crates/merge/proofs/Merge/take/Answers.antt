@@ -74,7 +74,14 @@ returns-then-after-eq0 c =
     let cells = c.args.self.now.cells in
     let least = c.in_ok-least.least in
     let k = least_cell c.requires c.in_ok-least.was (c.pop.ensures _ c.requires.holding.few) in
-    rw (root_set cells least 0, root_labels cells least 0, root_heads cells least 0, root_beginnings cells least 0, ← head_at cells least, ← label_at cells least)
+    rw (
+      root_set cells least 0,
+      root_labels cells least 0,
+      root_heads cells least 0,
+      root_beginnings cells least 0,
+      ← head_at cells least,
+      ← label_at cells least,
+    )
     (takes_last k (rw (← root_at c.args.self.now.cells c.in_ok-least.least, ← head_at c.args.self.now.cells c.in_ok-least.least) at
     c.tree_next-after.ensures) c.if-after-eq0.true)
 

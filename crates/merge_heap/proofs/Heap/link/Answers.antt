@@ -5,8 +5,7 @@ use Rattle.merge_heap.proofs.Heap.link.Goals as goal
 
 pub returns : goal.returns
 returns c =
-    let links = c.args.self.now.links in
-    (
+    let links = c.args.self.now.links in (
       refl,
       rw (child_set _ c.args.v c.args.w, next_kept links c.args.w _) refl,
       rw (child_kept _ c.args.v c.args.w, next_set links c.args.w _, child_at links c.args.v) refl,

@@ -60,25 +60,35 @@ offset_bounds-self-m c =
     let pre = c.requires in
     let f = pre.headed.few in
     let w = c.loop-at.invariant _ f pre.forest pre.rep in
-    omega (arith, (paired f c.loop-at.self.links w c.loop-at-test.true c.from-k.ensures c.if-k-eq-CELLS.false c.merge-m.new.self.links (c.merge-m.ensures _ f) c.from-rest.ensures).0)
+    omega (
+      arith,
+      (paired f c.loop-at.self.links w c.loop-at-test.true c.from-k.ensures c.if-k-eq-CELLS.false c.merge-m.new.self.links
+          (c.merge-m.ensures _ f) c.from-rest.ensures).0,
+    )
 
 pub bounds-self-m : goal.bounds-self-m
 bounds-self-m c =
     let pre = c.requires in
     let f = pre.headed.few in
     let w = c.loop-at.invariant _ f pre.forest pre.rep in
-    omega (arith, (paired f c.loop-at.self.links w c.loop-at-test.true c.from-k.ensures c.if-k-eq-CELLS.false c.merge-m.new.self.links (c.merge-m.ensures _ f) c.from-rest.ensures).0)
+    omega (
+      arith,
+      (paired f c.loop-at.self.links w c.loop-at-test.true c.from-k.ensures c.if-k-eq-CELLS.false c.merge-m.new.self.links
+          (c.merge-m.ensures _ f) c.from-rest.ensures).0,
+    )
 
 pub loop-at-smaller : goal.loop-at-smaller
 loop-at-smaller c =
     let pre = c.requires in
     let f = pre.headed.few in
     let w = c.loop-at.invariant _ f pre.forest pre.rep in
-    (paired f c.loop-at.self.links w c.loop-at-test.true c.from-k.ensures c.if-k-eq-CELLS.false c.merge-m.new.self.links (c.merge-m.ensures _ f) c.from-rest.ensures).2
+    (paired f c.loop-at.self.links w c.loop-at-test.true c.from-k.ensures c.if-k-eq-CELLS.false c.merge-m.new.self.links
+    (c.merge-m.ensures _ f) c.from-rest.ensures).2
 
 pub loop-at-preserved : goal.loop-at-preserved
 loop-at-preserved c n f hh p =
-    (paired f c.loop-at.self.links (c.loop-at.invariant n f hh p) c.loop-at-test.true c.from-k.ensures c.if-k-eq-CELLS.false c.merge-m.new.self.links (c.merge-m.ensures _ f) c.from-rest.ensures).1
+    (paired f c.loop-at.self.links (c.loop-at.invariant n f hh p) c.loop-at-test.true c.from-k.ensures c.if-k-eq-CELLS.false c.merge-m.new.self.links
+    (c.merge-m.ensures _ f) c.from-rest.ensures).1
 
 pub offset_bounds-self-stack : goal.offset_bounds-self-stack
 offset_bounds-self-stack c =
@@ -112,7 +122,8 @@ loop-stack-smaller c =
 
 pub loop-stack-preserved : goal.loop-stack-preserved
 loop-stack-preserved c n f child₁ next₁ all w =
-    (onward f c.loop-stack.self.links c.merge-r.new.self.links (c.loop-stack.invariant n f child₁ next₁ all w) c.loop-stack-test.true (c.merge-r.ensures _ f) c.from-below.ensures).0
+    (onward f c.loop-stack.self.links c.merge-r.new.self.links (c.loop-stack.invariant n f child₁ next₁ all w) c.loop-stack-test.true
+    (c.merge-r.ensures _ f) c.from-below.ensures).0
 
 pub returns : goal.returns
 returns c n f hh p =
