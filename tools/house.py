@@ -23,8 +23,6 @@ KINDS = ['code', 'definitions', 'laws', 'proofs', 'edits', 'long']
 # Where the words of a line, which are not a record's, have their names.
 LAYOUTS = ('listing_output/specs/Output.antt',)
 MOST_PARAMETERS = 8
-# One more: a merge goes on with the heads and the heap in arrays of 96 (docs/REQUIREMENTS.md, section 12), which no struct by value holds without a copy.
-ONE_MORE = ('crates/merge/src/lib.rt: take', 'crates/merge/src/lib.rt: merge_next')
 CITE = re.compile(r'^\s*(?:pub )?(?:ghost )?use Rattle\.(?!std\.)([a-z0-9_]+)\.(specs|proofs)\.')
 CALL = re.compile(r'\b([a-z][a-z0-9_]*)::')
 BARE_CODE = re.compile(r'\b(?:word_of|stored)\([^;]*, \d+\)|\b(?:row|old|new|r|item)\[\d+\]')
@@ -92,7 +90,7 @@ def parameters(where, text):
     """The functions of a file of code that have too many."""
     for m in re.finditer(r'^ *((?:pub )?(?:extern "C" )?)fn (\w+)(?:<[^>]*>)?\(([^{]*?)\)(?: ->|$| \{)', text, re.M | re.S):
         count = len([p for p in m.group(3).split(',') if p.strip()])
-        if 'extern' not in m.group(1) and count > MOST_PARAMETERS + (f'{where}: {m.group(2)}' in ONE_MORE):
+        if 'extern' not in m.group(1) and count > MOST_PARAMETERS:
             yield f'{where}:{text.count(chr(10), 0, m.start()) + 1}: {m.group(2)} has {count} parameters'
 
 
