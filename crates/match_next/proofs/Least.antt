@@ -42,13 +42,15 @@ pub record Seeking (ws txt : List ℕ) (of : ℕ → List ℕ) (root link : ℕ)
 pub seek_all : {ws txt : List ℕ} (of : ℕ → List ℕ) {root : ℕ} → AnyTree ws txt root → Seeking ws txt of root root None
 seek_all of {root} a = record { any = a; says = sym (first_none (of root)) }
 
-pub seek_end : {ws txt : List ℕ} {of : ℕ → List ℕ} {root link : ℕ} {found : Option ℕ} → Seeking ws txt of root link found → of 0 ≡ []
+pub seek_end : {ws txt : List ℕ} {of : ℕ → List ℕ} {root link : ℕ} {found : Option ℕ}
+    → Seeking ws txt of root link found → of 0 ≡ []
     → link ≤ 0 → found ≡ slice_get (of root) 0
 seek_end {link = link} g e h = let z : link ≡ 0 = omega arith in sym (g.says ∙ rw (z, e))
 
 -- ---- The least branch
 
-module _ {ws txt : List ℕ} {root link : ℕ} {found : Option ℕ} (g : Seeking ws txt (branches ws) root link found) (p : 0 < link) where
+module _ {ws txt : List ℕ} {root link : ℕ} {found : Option ℕ} (g : Seeking ws txt (branches ws) root link found)
+    (p : 0 < link) where
   pub least_left : {k : ℕ} → k ≡ left_link (record_at ws link) → Seeking ws txt (branches ws) root k (Some link)
   least_left q =
       let left = left_link (record_at ws link) in
@@ -210,7 +212,8 @@ first_some d (y ∷ xs) m x = refl
 -- Where a branch has a right side, the least of it comes next.
 pub right_next : {ws txt : List ℕ} {root at : ℕ} → AnyTree ws txt root → Memᴰ at (branches ws root)
     → 0 < right_link (record_at ws at)
-    → slice_get (branches ws (right_link (record_at ws at))) 0 ≡ slice_get (branches_past ws txt true (key_at ws txt at) root) 0
+    → slice_get (branches ws (right_link (record_at ws at))) 0
+    ≡ slice_get (branches_past ws txt true (key_at ws txt at) root) 0
 right_next {ws} {root = root} {at} a m q =
     let g = near_at root a.tree None (near_all a m) in
     let right = right_link (record_at ws at) in

@@ -47,7 +47,8 @@ module _ {ws txt : List ℕ} {root : ℕ} (a : AnyTree ws txt root) where
       → Some x ≡ slice_get (keep (key_at ws txt) (past strict low) (branches ws root)) 0 → (0 < x) × AnyTree ws txt x
   first_tree strict low e = go (keep (key_at ws txt) (past strict low) (branches ws root)) (past_of strict low) e
     where
-      go : {x : ℕ} (xs : List ℕ) → Allˡ (BranchOf ws a.which a.level root) xs → Some x ≡ slice_get xs 0 → (0 < x) × AnyTree ws txt x
+      go : {x : ℕ} (xs : List ℕ) → Allˡ (BranchOf ws a.which a.level root) xs → Some x ≡ slice_get xs 0
+          → (0 < x) × AnyTree ws txt x
       go [] o e = absurd (none-some _ (sym e))
       go (y ∷ xs) o e = rw (same_Some _ _ e) (o.0.some, branch_tree a.tree o.0)
 

@@ -2,20 +2,8 @@
 use mathlib.Core.Path.{sym, ◌∙◌}
 use native.Mathlib.Omega.{arith}
 use Rattle.find_tree.proofs.Branches.{tree_fits, sides_earlier}
-use Rattle.match_next.proofs.Least.{near_all, near_some, near_left, near_right, near_end}
+use Rattle.match_next.proofs.Least.{near_some, near_left, near_right, near_end}
 use Rattle.match_next.proofs.branch_above.Goals as goal
-
-pub loop-link-init : goal.loop-link-init
-loop-link-init c =
-    near_all c.requires.any_tree c.requires.fact
-
-pub is_left-requires : goal.is_left-requires
-is_left-requires c =
-    record {
-      any_tree = c.loop-link.invariant.seeking.any;
-      fact = c.loop-link.invariant.among;
-      fact_2 = c.loop-link-test.true;
-    }
 
 pub left_of-link-requires : goal.left_of-link-requires
 left_of-link-requires c =

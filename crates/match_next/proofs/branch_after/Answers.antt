@@ -1,6 +1,5 @@
 -- branch_after meets its contract: the right side comes next, where there is one.
 use mathlib.Core.Path.{◌∙◌}
-use native.Mathlib.Omega.{arith}
 use Rattle.find_tree.proofs.Branches.{tree_fits, any_right}
 use Rattle.find_tree.proofs.Links.{among_tree}
 use Rattle.match_next.proofs.Least.{right_next}
@@ -19,15 +18,3 @@ pub returns-then-right-gt0 : goal.returns-then-right-gt0
 returns-then-right-gt0 c =
     rw c.right_of-right.ensures at c.least_of.ensures
     ∙ right_next c.requires.any_tree c.requires.fact (rw c.right_of-right.ensures at c.if-right-gt0.true)
-
-pub branch_above-requires : goal.branch_above-requires
-branch_above-requires c =
-    record {
-      any_tree = c.requires.any_tree;
-      fact = c.requires.fact;
-      at_value = omega (arith, c.right_of-right.ensures, c.if-right-gt0.false);
-    }
-
-pub returns : goal.returns
-returns c =
-    c.branch_above.ensures

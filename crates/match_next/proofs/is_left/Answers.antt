@@ -28,7 +28,3 @@ key_of-key-requires c =
 pub key_past-requires : goal.key_past-requires
 key_past-requires c =
     let pre = c.requires in (among_some pre.any_tree pre.fact, pre.any_tree)
-
-pub returns : goal.returns
-returns c =
-    rw c.key_of-key.ensures at c.key_past.ensures

@@ -2,21 +2,9 @@
 use mathlib.Core.Path.{sym, ◌∙◌}
 use mathlib.Core.Bool.{false}
 use native.Mathlib.Omega.{arith}
-use Rattle.find_tree.proofs.Branches.{tree_fits, sides_earlier}
-use Rattle.match_next.proofs.Least.{seek_all, seek_end, branches_past, past_none, past_left, past_right}
+use Rattle.find_tree.proofs.Branches.{sides_earlier}
+use Rattle.match_next.proofs.Least.{seek_end, past_none, past_left, past_right}
 use Rattle.match_next.proofs.least_from.Goals as goal
-
-pub loop-at-init : goal.loop-at-init
-loop-at-init c =
-    seek_all (branches_past c.args.words.now c.args.text.now false c.args.low.now) c.requires
-
-pub key_past-requires : goal.key_past-requires
-key_past-requires c =
-    (c.loop-at-test.true, c.loop-at.invariant.any)
-
-pub left_of-at-requires : goal.left_of-at-requires
-left_of-at-requires c =
-    omega (arith, tree_fits c.loop-at.invariant.any, c.loop-at-test.true)
 
 pub loop-at-smaller-then-key_past : goal.loop-at-smaller-then-key_past
 loop-at-smaller-then-key_past c =
@@ -26,10 +14,6 @@ pub loop-at-preserved-then-key_past : goal.loop-at-preserved-then-key_past
 loop-at-preserved-then-key_past c =
     past_left false c.args.low.now c.loop-at.invariant c.loop-at-test.true
     (sym c.key_past.ensures ∙ c.if-key_past.true) c.left_of-at.ensures
-
-pub right_of-at-requires : goal.right_of-at-requires
-right_of-at-requires c =
-    omega (arith, tree_fits c.loop-at.invariant.any, c.loop-at-test.true)
 
 pub loop-at-smaller : goal.loop-at-smaller
 loop-at-smaller c =

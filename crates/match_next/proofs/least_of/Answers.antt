@@ -1,18 +1,9 @@
 -- least_of meets its contract: the tree at hand and what is found say what the whole tree says.
 use native.Mathlib.Omega.{arith}
-use Rattle.find_tree.specs.Links.{branches}
-use Rattle.find_tree.proofs.Branches.{tree_fits, sides_earlier}
+use Rattle.find_tree.proofs.Branches.{sides_earlier}
 use Rattle.find_tree.proofs.Links.{branches_none}
-use Rattle.match_next.proofs.Least.{seek_all, seek_end, least_left}
+use Rattle.match_next.proofs.Least.{seek_end, least_left}
 use Rattle.match_next.proofs.least_of.Goals as goal
-
-pub loop-at-init : goal.loop-at-init
-loop-at-init c =
-    seek_all (branches c.args.words.now) c.requires
-
-pub left_of-at-requires : goal.left_of-at-requires
-left_of-at-requires c =
-    omega (arith, tree_fits c.loop-at.invariant.any, c.loop-at-test.true)
 
 pub loop-at-smaller : goal.loop-at-smaller
 loop-at-smaller c =
