@@ -1,6 +1,6 @@
 -- The cells of a merge: what their trees, heads and labels name, the next match of a cell, and how many are left.
 use Prim.Native.Nat.{ℕ, zero, suc, ◌≤◌, ◌<◌}
-use mathlib.Core.Path.{◌≡◌, refl, ◌∙◌}
+use mathlib.Core.Path.{◌≡◌, refl, sym, ◌∙◌}
 use mathlib.Core.List.{List, [], ◌∷◌}
 use native.Mathlib.Omega.{arith}
 use native.Mathlib.Decide.{ℕ_discrete}
@@ -15,13 +15,14 @@ use Rattle.memory.specs.Read.{TextIn}
 use Rattle.memory.proofs.Seen.{link_later}
 use Rattle.merge_heads.specs.Compare.{Heads, Stands}
 use Rattle.find_tree.specs.Tree.{AnyTree}
-use Rattle.find_tree.specs.Links.{matches, head0}
+use Rattle.find_tree.specs.Links.{matches}
+use Rattle.std.specs.Prelude.{Some, slice_get}
+use Rattle.std.proofs.lemmas.Option.{none-some, same_Some}
 use Rattle.find_tree.proofs.Branches.{text_in}
 use Rattle.find_tree.specs.Links.{BranchOf}
 use Rattle.find_tree.proofs.After.{all_after, after_next}
 use Rattle.find_tree.proofs.Matches.{MatchOf, matches_of, matches_increasing}
 use Rattle.find_list.specs.Entries.{entry_key}
-use Rattle.merge_collect.proofs.Collected.{no_match}
 use Rattle.merge.specs.Stream.{State, later, run_at, left, remaining, Holding}
 use Rattle.memory.specs.Sound.{At}
 use Rattle.memory.proofs.At.{at_of}
@@ -32,22 +33,20 @@ module _ {ws txt : List ℕ} {w : Which} {ℓ : Level} {root : ℕ} (t : At ws t
   later_of : Allˡ (MatchOf ws txt w ℓ root p) (later ws txt p root head)
   later_of = all_after (key_at ws txt) (MatchOf ws txt w ℓ root p) (key_at ws txt head) (matches ws txt root p) (matches_of t p)
 
-  pub later_end : head0 (later ws txt p root head) ≡ 0 → later ws txt p root head ≡ []
-  later_end e = no_match t p (later ws txt p root head) later_of e
-
   -- The branch r is the next match.
   pub record Next (r : ℕ) : Type 0 where
     pub is_next : later ws txt p root head ≡ r ∷ later ws txt p root r
     pub match : MatchOf ws txt w ℓ root p r
 
-  pub later_next : (r : ℕ) → r ≡ head0 (later ws txt p root head) → (r ≡ 0 → ⊥) → Next r
-  later_next r e n = go (later ws txt p root head) refl later_of e
+  pub later_next : (r : ℕ) → Some r ≡ slice_get (later ws txt p root head) 0 → Next r
+  later_next r e = go (later ws txt p root head) refl later_of e
     where
-      go : (xs : List ℕ) → later ws txt p root head ≡ xs → Allˡ (MatchOf ws txt w ℓ root p) xs → r ≡ head0 xs → Next r
-      go [] q a e = absurd (n e)
+      go : (xs : List ℕ) → later ws txt p root head ≡ xs → Allˡ (MatchOf ws txt w ℓ root p) xs → Some r ≡ slice_get xs 0
+          → Next r
+      go [] q a e = absurd (none-some r (sym e))
       go (y ∷ xs) q a e = record {
-        is_next = q ∙ rw (e, ← after_next (key_at ws txt) (key_at ws txt head) (matches ws txt root p) (matches_increasing t p) y xs q);
-        match = rw e a.0;
+        is_next = q ∙ rw (same_Some r y e, ← after_next (key_at ws txt) (key_at ws txt head) (matches ws txt root p) (matches_increasing t p) y xs q) refl;
+        match = rw (same_Some r y e) a.0;
       }
 
 -- ---- What a cell names

@@ -25,11 +25,13 @@ use Rattle.merge_heads.proofs.Heads.{head_begun}
 use Rattle.merge_heap.proofs.HeapMap.{map_same}
 use Rattle.merge_heap.proofs.Rep.{stands_pairs, stands_insert}
 use Rattle.find_tree.specs.Tree.{AnyTree}
-use Rattle.find_tree.specs.Links.{branches, head0, BranchOf}
+use Rattle.find_tree.specs.Links.{branches, BranchOf}
+use Rattle.std.specs.Prelude.{slice_get}
+use Rattle.merge_collect.proofs.Collected.{no_first}
 use Rattle.find_list.specs.Entries.{Entry, entry_key}
 use Rattle.merge.specs.Stream.{later, run_at, left, Holding, State, state, TookCell, TookIn, Takes, CellsReady}
 use Rattle.merge.specs.declared.Given.{Given}
-use Rattle.merge.proofs.Cells.{Next, later_end, later_next, branch_head, cell_tree, next_branch, cell_stands, remaining_less}
+use Rattle.merge.proofs.Cells.{Next, later_next, branch_head, cell_tree, next_branch, cell_stands, remaining_less}
 use Rattle.memory.proofs.At.{no_link}
 
 -- A cell's lists before and after a change of another cell.
@@ -281,50 +283,48 @@ module _ {ws txt : List ℕ} {p : Str} {m : State} {cell rest : ℕ} {child' nex
       let j = g.cells cell popped_cell.0 in
       (record { which = y.which; level = y.level; tree = cell_tree g cell popped_cell.0 }, (j.among popped_cell.2, j.begins))
 
-  module _ {r : ℕ} (e : r ≡ head0 (later ws txt p (get_or m.roots cell 0) (get_or m.heads cell 0))) where
-    pub takes_last : r ≡ 0
-        → Takes ws txt p m (state (set m.roots cell 0) m.heads m.beginnings m.labels child' next' m.n rest m.last)
+  pub takes_last : None ≡ slice_get (later ws txt p (get_or m.roots cell 0) (get_or m.heads cell 0)) 0
+      → Takes ws txt p m (state (set m.roots cell 0) m.heads m.beginnings m.labels child' next' m.n rest m.last)
+      (Some (record { branch = get_or m.heads cell 0; label = get_or m.labels cell 0 }))
+  takes_last e =
+      takes_some k.pops refl
+      (λ w v x c hh g q made. rw q (took_last g rest child' next' made (no_first (later ws txt p (get_or m.roots c 0) (get_or m.heads c 0)) (rw q at e))))
+
+  module _ {r : ℕ} (e : Some r ≡ slice_get (later ws txt p (get_or m.roots cell 0) (get_or m.heads cell 0)) 0) where
+    pub next_in : TextIn ws txt r × (cell < 96)
+    next_in = let l = popped_cell.0 in (branch_head g.here (next_branch g l (later_next (cell_tree g cell l) p (get_or m.heads cell 0) r e)), cell_small)
+
+    -- The cells have m.heads, once this one has its m.next.
+    next_heads : (j : ℕ) → j < m.n → Head ws txt (set m.heads cell r) (with_beginning ws txt m.beginnings cell r) j
+    next_heads j i =
+        let l = popped_cell.0 in
+        let found = later_next (cell_tree g cell l) p (get_or m.heads cell 0) r e in
+        let inside : cell < length m.heads = omega (arith, cell_small, g.full.of_heads) in
+        let branch : BranchOf ws y.which y.level y.link (get_or (set m.heads cell r) j 0) =
+        elim (ℕ_discrete j cell) [
+          | yes q ↦ rw (q, get_or-set_same m.heads cell r 0 inside) (next_branch g l found)
+          | no q ↦ rw (get_or-set_other m.heads cell j r 0 q) (g.cells j i).branch
+        ] in
+        record {
+          small = omega (arith, g.few);
+          text_in = branch_head g.here branch;
+          begun = head_begun ws txt m.heads m.beginnings cell r inside
+              (omega (arith, cell_small, g.full.of_beginnings)) j (λ _. g.begun j i);
+        }
+
+    pub insert_asks : Root ws txt (set m.heads cell r) (with_beginning ws txt m.beginnings cell r) rest
+        × Head ws txt (set m.heads cell r) (with_beginning ws txt m.beginnings cell r) cell
+    insert_asks = ((λ k. next_heads rest (popped_cell.1 k)), next_heads cell popped_cell.0)
+
+    pub takes_next : {top : ℕ} {child'' next'' : List ℕ}
+        → ((n : ℕ) → n ≤ 96 → cell < n
+        → Inserts (cell_cmp ws txt (set m.heads cell r)) n child' next' child'' next'' top rest cell)
+        → Takes ws txt p m
+        (state m.roots (set m.heads cell r)
+        (with_beginning ws txt m.beginnings cell r) m.labels child'' next'' m.n top m.last)
         (Some (record { branch = get_or m.heads cell 0; label = get_or m.labels cell 0 }))
-    takes_last z =
+    takes_next {top} {child''} {next''} inserted =
         takes_some k.pops refl
-        (λ w v x c hh g q made. rw q
-        (took_last g rest child' next' made (later_end (cell_tree g c (below g)) p (get_or m.heads c 0) (sym (rw q at e) ∙ z))))
-
-    module _ (ne : r ≡ 0 → ⊥) where
-      pub next_in : TextIn ws txt r × (cell < 96)
-      next_in = let l = popped_cell.0 in (branch_head g.here (next_branch g l (later_next (cell_tree g cell l) p (get_or m.heads cell 0) r e ne)), cell_small)
-
-      -- The cells have m.heads, once this one has its m.next.
-      next_heads : (j : ℕ) → j < m.n → Head ws txt (set m.heads cell r) (with_beginning ws txt m.beginnings cell r) j
-      next_heads j i =
-          let l = popped_cell.0 in
-          let found = later_next (cell_tree g cell l) p (get_or m.heads cell 0) r e ne in
-          let inside : cell < length m.heads = omega (arith, cell_small, g.full.of_heads) in
-          let branch : BranchOf ws y.which y.level y.link (get_or (set m.heads cell r) j 0) =
-          elim (ℕ_discrete j cell) [
-            | yes q ↦ rw (q, get_or-set_same m.heads cell r 0 inside) (next_branch g l found)
-            | no q ↦ rw (get_or-set_other m.heads cell j r 0 q) (g.cells j i).branch
-          ] in
-          record {
-            small = omega (arith, g.few);
-            text_in = branch_head g.here branch;
-            begun = head_begun ws txt m.heads m.beginnings cell r inside
-                (omega (arith, cell_small, g.full.of_beginnings)) j (λ _. g.begun j i);
-          }
-
-      pub insert_asks : Root ws txt (set m.heads cell r) (with_beginning ws txt m.beginnings cell r) rest
-          × Head ws txt (set m.heads cell r) (with_beginning ws txt m.beginnings cell r) cell
-      insert_asks = ((λ k. next_heads rest (popped_cell.1 k)), next_heads cell popped_cell.0)
-
-      pub takes_next : {top : ℕ} {child'' next'' : List ℕ}
-          → ((n : ℕ) → n ≤ 96 → cell < n
-          → Inserts (cell_cmp ws txt (set m.heads cell r)) n child' next' child'' next'' top rest cell)
-          → Takes ws txt p m
-          (state m.roots (set m.heads cell r)
-          (with_beginning ws txt m.beginnings cell r) m.labels child'' next'' m.n top m.last)
-          (Some (record { branch = get_or m.heads cell 0; label = get_or m.labels cell 0 }))
-      takes_next {top} {child''} {next''} inserted =
-          takes_some k.pops refl
-          (λ w v x c hh g q made.
-          rw q (took_next g r (later_next (cell_tree g c (below g)) p (get_or m.heads c 0) r (rw q at e) ne) rest top child' next' child'' next'' made
-          (rw q at (inserted m.n y.holding.few popped_cell.0))))
+        (λ w v x c hh g q made.
+        rw q (took_next g r (later_next (cell_tree g c (below g)) p (get_or m.heads c 0) r (rw q at e)) rest top child' next' child'' next'' made
+        (rw q at (inserted m.n y.holding.few popped_cell.0))))

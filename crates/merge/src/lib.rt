@@ -83,12 +83,12 @@ impl Merge {
     {
         let least = self.heap.pop(words, text, &self.cells)?;
         let cell = self.cells[least];
-        let after = match_next::tree_next(words, text, cell.root, prefix, cell.head);
-        if after == 0 {
-            self.cells[least].root = 0;
-        } else {
-            merge_heads::set_head(words, text, &mut self.cells, least, after);
-            self.heap.insert(words, text, &self.cells, least);
+        match match_next::tree_next(words, text, cell.root, prefix, cell.head) {
+            Some(after) => {
+                merge_heads::set_head(words, text, &mut self.cells, least, after);
+                self.heap.insert(words, text, &self.cells, least);
+            }
+            None => self.cells[least].root = 0,
         }
         Some(Given {
             branch: cell.head,

@@ -16,7 +16,6 @@ use Rattle.source.specs.Terms.{weight}
 use Rattle.source.specs.Lists.{nonempty}
 use Rattle.source.specs.Listing.{SearchTerm, NSTPrefix, with_imports}
 use Rattle.source.specs.Table.{last_opt}
-use Rattle.source.specs.Shared.{Allˡ}
 use Rattle.source.specs.Forward.{tree_matches}
 use Rattle.source.proofs.Forward.{nonempty_append}
 use Rattle.source.specs.Forward.{flat_in}
@@ -30,9 +29,11 @@ use Rattle.merge_heads.specs.declared.Cell.{Cell}
 use Rattle.merge_heads.specs.Compare.{roots, labels, heads, beginnings, with_beginning}
 use Rattle.merge_heads.proofs.Heads.{head_begun}
 use Rattle.find_tree.specs.Tree.{AnyTree}
-use Rattle.find_tree.specs.Links.{matches, head0, row_at}
+use Rattle.find_tree.specs.Links.{matches, row_at}
+use Rattle.std.specs.Prelude.{Some, None, slice_get}
+use Rattle.std.proofs.lemmas.Option.{none-some, same_Some}
 use Rattle.find_tree.proofs.Branches.{text_in}
-use Rattle.find_tree.proofs.Matches.{MatchOf, matches_of, prefix_rows, all_rows}
+use Rattle.find_tree.proofs.Matches.{matches_of, prefix_rows, all_rows}
 use Rattle.find_list.specs.Names.{AnyList}
 use Rattle.find_list.proofs.Collections.{any_imported, any_own, collection_right, sort_tree, rest_list, own_tree, names_reads, imported_list, imported_reads}
 use Rattle.find_list.proofs.Collections.{list_weight, rest_lighter}
@@ -56,15 +57,14 @@ module _ {ws txt : List ℕ} {w : Which} {ℓ : Level} {root : ℕ} (t : At ws t
   term_rows (by_prefix {p}) = rows_prefix p
   term_rows by_all = sym (all_rows t none)
 
-module _ {ws txt : List ℕ} {w : Which} {ℓ : Level} {root : ℕ} (t : At ws txt w (tree ℓ) root) (p : Str) where
-  -- Where the first of some matches is none, there are none.
-  pub no_match : (xs : List ℕ) → Allˡ (MatchOf ws txt w ℓ root p) xs → head0 xs ≡ 0 → xs ≡ []
-  no_match [] a e = refl
-  no_match (y ∷ xs) a e = absurd (omega (arith, a.0.branch.some))
+-- Where there is no first one there is none.
+pub no_first : (xs : List ℕ) → None ≡ slice_get xs 0 → xs ≡ []
+no_first [] e = refl
+no_first (y ∷ xs) e = absurd (none-some y e)
 
-head_tail : (xs : List ℕ) (r : ℕ) → r ≡ head0 xs → (r ≡ 0 → ⊥) → (tl : List ℕ) × (xs ≡ r ∷ tl)
-head_tail [] r e n = absurd (n e)
-head_tail (y ∷ xs) r e n = (xs, rw e)
+head_tail : (xs : List ℕ) (r : ℕ) → Some r ≡ slice_get xs 0 → (tl : List ℕ) × (xs ≡ r ∷ tl)
+head_tail [] r e = absurd (none-some r (sym e))
+head_tail (y ∷ xs) r e = (xs, rw (same_Some r y e) refl)
 
 -- ---- The outermost label
 -- The outermost label, once the collection x is entered.
@@ -131,11 +131,11 @@ module _ {ws txt : List ℕ} {x own rest sort : ℕ} (s : Seen ws txt x own rest
   seen_tree n = any_own s.any s.some s.own_is (λ e. n (s.sort_is ∙ e))
 
   -- The first match of the tree has its key in the text.
-  pub first_in : (sort ≡ 1 → ⊥) → (p : Str) {first : ℕ} → first ≡ head0 (matches ws txt own p) → (first ≡ 0 → ⊥)
+  pub first_in : (sort ≡ 1 → ⊥) → (p : Str) {first : ℕ} → Some first ≡ slice_get (matches ws txt own p) 0
       → TextIn ws txt first
-  first_in n p {first} e z =
+  first_in n p {first} e =
       let a = seen_tree n in
-      let b = (rw (head_tail (matches ws txt own p) first e z).1 at (matches_of a.tree p)).0.branch in
+      let b = (rw (head_tail (matches ws txt own p) first e).1 at (matches_of a.tree p)).0.branch in
       text_in (record { which = a.which; level = a.level; tree = at_of a.tree (tree _) (omega arith) b.link }) b.some
 
   -- Of any table and level that the list is of.
@@ -282,9 +282,9 @@ module _ {ws txt : List ℕ} {p : Str} {x own rest sort label i r : ℕ}
           (b.says w v l imports (rest_at s t) (omega (arith, rest_before s t)) o q);
     }
 
-  module _ (n : sort ≡ 1 → ⊥) {first : ℕ} (e : first ≡ head0 (matches ws txt own p)) where
+  module _ (n : sort ≡ 1 → ⊥) where
     -- A tree without a match.
-    pub collected_skip : first ≡ 0
+    pub collected_skip : None ≡ slice_get (matches ws txt own p) 0
         → Collected ws txt p rest label i r roots heads beginnings labels roots' heads' beginnings' labels'
         → Collected ws txt p x label i r roots heads beginnings labels roots' heads' beginnings' labels'
     collected_skip z b = record {
@@ -303,12 +303,13 @@ module _ {ws txt : List ℕ} {p : Str} {x own rest sort label i r : ℕ}
           parts = b.parts;
           count = b.count;
           has = b.has;
-          lists = λ term q asks. lists_skip s t imports n asks (no_match (own_at s t n) p (matches ws txt own p) (matches_of (own_at s t n) p) (sym e ∙ z))
+          lists = λ term q asks. lists_skip s t imports n asks (no_first (matches ws txt own p) z)
               ∙ b.lists term q asks;
         }
 
     -- A tree with one.
-    module _ (z : first ≡ 0 → ⊥) (f : Full roots heads beginnings labels) (small : i < 96) where
+    module _ {first : ℕ} (e : Some first ≡ slice_get (matches ws txt own p) 0) (f : Full roots heads beginnings labels)
+        (small : i < 96) where
       cell_in : {w : Which} {ℓ : Level} {l : ℕ} {imports : List Str} → At ws txt w (list ℓ) x → x ≤ l
           → LabelOk ws w ℓ l label → label_at ws txt label ≡ last_opt imports
           → SameCell (set roots i own) (set heads i first) (with_beginning ws txt beginnings i first)
@@ -320,7 +321,7 @@ module _ {ws txt : List ℕ} {p : Str} {x own rest sort label i r : ℕ}
           imports
       unfolding elements
       cell_in {w} {ℓ} {l} {imports} t h o labelled y b =
-          let m = head_tail (matches ws txt own p) first e z in
+          let m = head_tail (matches ws txt own p) first e in
           record {
             parts = record { root = own; label = label; imports = imports; labelled = labelled } ∷ b.parts;
             count = omega (arith, b.count);

@@ -53,10 +53,9 @@ pub fn collect(
         let after = LabelledList { at: mid, ..rest };
         return collect(words, text, prefix, after, cells);
     }
-    let first = match_next::tree_first(words, text, own, prefix);
-    if first == 0 {
+    let Some(first) = match_next::tree_first(words, text, own, prefix) else {
         return collect(words, text, prefix, rest, cells);
-    }
+    };
     cells[part.at].root = own;
     cells[part.at].label = part.label;
     merge_heads::set_head(words, text, cells, part.at, first);

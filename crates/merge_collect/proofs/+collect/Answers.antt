@@ -52,25 +52,25 @@ returns-then-sort_of-eq-IMPORTED-clause-collected t c =
     ] in
     collected_imported s c.if-sort_of-eq-IMPORTED.true o c.collect-mid.ensures.collected c.collect.ensures.collected
 
-pub tree_first-first-requires : goal.tree_first-first-requires
-tree_first-first-requires t c =
+pub tree_first-requires : goal.tree_first-requires
+tree_first-requires t c =
     seen_tree (seen c.requires.any_list c.if-part-eq0.false c.own_of-own.ensures c.rest_of.ensures c.sort_of.ensures)
     c.if-sort_of-eq-IMPORTED.false
 
-pub collect-requires-then-first-eq0 : goal.collect-requires-then-first-eq0
-collect-requires-then-first-eq0 t c =
+pub collect-requires-in_default : goal.collect-requires-in_default
+collect-requires-in_default t c =
     let s = seen c.requires.any_list c.if-part-eq0.false c.own_of-own.ensures c.rest_of.ensures c.sort_of.ensures in
     (omega (arith, rest_less s, c.decreases), (seen_rest s, omega (arith, rest_less s, c.requires.list_bound)))
 
-pub returns-then-first-eq0-clause-upper_bound : goal.returns-then-first-eq0-clause-upper_bound
-returns-then-first-eq0-clause-upper_bound t c =
+pub returns-in_default-clause-upper_bound : goal.returns-in_default-clause-upper_bound
+returns-in_default-clause-upper_bound t c =
     let s = seen c.requires.any_list c.if-part-eq0.false c.own_of-own.ensures c.rest_of.ensures c.sort_of.ensures in
-    omega (arith, rest_less s, c.collect-then-first-eq0.ensures.upper_bound)
+    omega (arith, rest_less s, c.collect-in_default.ensures.upper_bound)
 
-pub returns-then-first-eq0-clause-collected : goal.returns-then-first-eq0-clause-collected
-returns-then-first-eq0-clause-collected t c =
+pub returns-in_default-clause-collected : goal.returns-in_default-clause-collected
+returns-in_default-clause-collected t c =
     let s = seen c.requires.any_list c.if-part-eq0.false c.own_of-own.ensures c.rest_of.ensures c.sort_of.ensures in
-    collected_skip s c.if-sort_of-eq-IMPORTED.false c.tree_first-first.ensures c.if-first-eq0.true c.collect-then-first-eq0.ensures.collected
+    collected_skip s c.if-sort_of-eq-IMPORTED.false c.in_default.ensures c.collect-in_default.ensures.collected
 
 pub bounds-cells-part : goal.bounds-cells-part
 bounds-cells-part t c =
@@ -80,7 +80,7 @@ bounds-cells-part t c =
 pub set_head-requires-clause-text_in : goal.set_head-requires-clause-text_in
 set_head-requires-clause-text_in t c =
     let s = seen c.requires.any_list c.if-part-eq0.false c.own_of-own.ensures c.rest_of.ensures c.sort_of.ensures in
-    first_in s c.if-sort_of-eq-IMPORTED.false _ c.tree_first-first.ensures c.if-first-eq0.false
+    first_in s c.if-sort_of-eq-IMPORTED.false _ c.in-Some.ensures
 
 pub set_head-requires-clause-cell_lt_heaviest_list :
     goal.set_head-requires-clause-cell_lt_heaviest_list
@@ -107,6 +107,6 @@ pub returns-clause-collected : goal.returns-clause-collected
 returns-clause-collected t c =
     let s = seen c.requires.any_list c.if-part-eq0.false c.own_of-own.ensures c.rest_of.ensures c.sort_of.ensures in
     let b = placed c.args.cells.now c.set_head.ensures in
-    collected_cell s c.if-sort_of-eq-IMPORTED.false c.tree_first-first.ensures c.if-first-eq0.false (full_cells c.args.cells.now c.told-cells)
+    collected_cell s c.if-sort_of-eq-IMPORTED.false c.in-Some.ensures (full_cells c.args.cells.now c.told-cells)
     (omega (arith, rest_less s, c.requires.list_bound))
     (rw (b.roots_are, b.heads_are, b.beginnings_are, b.labels_are) at c.collect-2.ensures.collected)

@@ -22,34 +22,34 @@ pub bounds-self-least : goal.bounds-self-least
 bounds-self-least c =
     cell_small (least_cell c.requires c.in_ok-least.was (c.pop.ensures _ c.requires.holding.few))
 
-pub tree_next-after-requires-clause-any_tree : goal.tree_next-after-requires-clause-any_tree
-tree_next-after-requires-clause-any_tree c =
+pub tree_next-requires-clause-any_tree : goal.tree_next-requires-clause-any_tree
+tree_next-requires-clause-any_tree c =
     rw (root_at c.args.self.now.cells c.in_ok-least.least) at
     (next_asks (least_cell c.requires c.in_ok-least.was (c.pop.ensures _ c.requires.holding.few))).0
 
-pub tree_next-after-requires-clause-fact : goal.tree_next-after-requires-clause-fact
-tree_next-after-requires-clause-fact c =
+pub tree_next-requires-clause-fact : goal.tree_next-requires-clause-fact
+tree_next-requires-clause-fact c =
     rw (root_at c.args.self.now.cells c.in_ok-least.least, head_at c.args.self.now.cells c.in_ok-least.least) at
     (next_asks (least_cell c.requires c.in_ok-least.was (c.pop.ensures _ c.requires.holding.few))).1.0
 
-pub tree_next-after-requires-clause-prefix_value : goal.tree_next-after-requires-clause-prefix_value
-tree_next-after-requires-clause-prefix_value c =
+pub tree_next-requires-clause-prefix_value : goal.tree_next-requires-clause-prefix_value
+tree_next-requires-clause-prefix_value c =
     rw (head_at c.args.self.now.cells c.in_ok-least.least) at
     (next_asks (least_cell c.requires c.in_ok-least.was (c.pop.ensures _ c.requires.holding.few))).1.1
 
-pub offset_bounds-self-least-then-after-eq0 : goal.offset_bounds-self-least-then-after-eq0
-offset_bounds-self-least-then-after-eq0 c =
+pub offset_bounds-self-least-in-None : goal.offset_bounds-self-least-in-None
+offset_bounds-self-least-in-None c =
     omega (arith, cell_small (least_cell c.requires c.in_ok-least.was (c.pop.ensures _ c.requires.holding.few)))
 
-pub bounds-self-least-then-after-eq0 : goal.bounds-self-least-then-after-eq0
-bounds-self-least-then-after-eq0 c =
+pub bounds-self-least-in-None : goal.bounds-self-least-in-None
+bounds-self-least-in-None c =
     cell_small (least_cell c.requires c.in_ok-least.was (c.pop.ensures _ c.requires.holding.few))
 
 pub set_head-requires-clause-text_in : goal.set_head-requires-clause-text_in
 set_head-requires-clause-text_in c =
     let k = least_cell c.requires c.in_ok-least.was (c.pop.ensures _ c.requires.holding.few) in
     (next_in k (rw (← root_at c.args.self.now.cells c.in_ok-least.least, ← head_at c.args.self.now.cells c.in_ok-least.least) at
-    c.tree_next-after.ensures) c.if-after-eq0.false).0
+    c.in-Some.ensures)).0
 
 pub set_head-requires-clause-cell_lt_heaviest_list : goal.set_head-requires-clause-cell_lt_heaviest_list
 set_head-requires-clause-cell_lt_heaviest_list c =
@@ -60,17 +60,17 @@ insert-requires-clause-root c =
     let k = least_cell c.requires c.in_ok-least.was (c.pop.ensures _ c.requires.holding.few) in
     rw (c.set_head.ensures.heads_are, c.set_head.ensures.beginnings_are)
     (insert_asks k (rw (← root_at c.args.self.now.cells c.in_ok-least.least, ← head_at c.args.self.now.cells c.in_ok-least.least) at
-    c.tree_next-after.ensures) c.if-after-eq0.false).0
+    c.in-Some.ensures)).0
 
 pub insert-requires-clause-head : goal.insert-requires-clause-head
 insert-requires-clause-head c =
     let k = least_cell c.requires c.in_ok-least.was (c.pop.ensures _ c.requires.holding.few) in
     rw (c.set_head.ensures.heads_are, c.set_head.ensures.beginnings_are)
     (insert_asks k (rw (← root_at c.args.self.now.cells c.in_ok-least.least, ← head_at c.args.self.now.cells c.in_ok-least.least) at
-    c.tree_next-after.ensures) c.if-after-eq0.false).1
+    c.in-Some.ensures)).1
 
-pub returns-then-after-eq0 : goal.returns-then-after-eq0
-returns-then-after-eq0 c =
+pub returns-in-None : goal.returns-in-None
+returns-in-None c =
     let cells = c.args.self.now.cells in
     let least = c.in_ok-least.least in
     let k = least_cell c.requires c.in_ok-least.was (c.pop.ensures _ c.requires.holding.few) in
@@ -83,14 +83,14 @@ returns-then-after-eq0 c =
       ← label_at cells least,
     )
     (takes_last k (rw (← root_at c.args.self.now.cells c.in_ok-least.least, ← head_at c.args.self.now.cells c.in_ok-least.least) at
-    c.tree_next-after.ensures) c.if-after-eq0.true)
+    c.in-None.ensures))
 
-pub returns-else-after-eq0 : goal.returns-else-after-eq0
-returns-else-after-eq0 c =
+pub returns-in-Some : goal.returns-in-Some
+returns-in-Some c =
     let cells = c.args.self.now.cells in
     let least = c.in_ok-least.least in
     let set = c.set_head.ensures in
     let k = least_cell c.requires c.in_ok-least.was (c.pop.ensures _ c.requires.holding.few) in
     rw (set.roots_are, set.labels_are, set.heads_are, set.beginnings_are, ← head_at cells least, ← label_at cells least)
     (takes_next k (rw (← root_at c.args.self.now.cells c.in_ok-least.least, ← head_at c.args.self.now.cells c.in_ok-least.least) at
-    c.tree_next-after.ensures) c.if-after-eq0.false (rw set.heads_are at c.insert.ensures))
+    c.in-Some.ensures) (rw set.heads_are at c.insert.ensures))
