@@ -78,10 +78,8 @@ fn words_of(bytes: &[u8]) -> [u32; listing_output::LINE]
     ensures { result ≡ line_words bytes.now }
 {
     let mut words = [0u32; listing_output::LINE];
-    let mut i = 0;
-    while i < listing_output::LINE {
+    for i in 0..listing_output::LINE {
         words[i] = memory_bytes::word_at(bytes, i);
-        i += 1;
     }
     words
 }

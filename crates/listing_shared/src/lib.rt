@@ -15,15 +15,12 @@ pub fn shared_length(flat: &[u8], out: &[u8], n: usize) -> u32
     let candidate = listing_row::candidate_at(flat, 0);
     let first = listing_row::text_of(out, candidate);
     let mut shared = candidate.len as usize;
-    let mut i = 1;
-    while i < n {
+    for i in 1..n {
         if shared == 0 {
             return 0;
         }
         let next = listing_row::text_of(out, listing_row::candidate_at(flat, i));
-        let c = text::string_compare(&first[..shared], next);
-        shared = c.agree;
-        i += 1;
+        shared = text::string_compare(&first[..shared], next).agree;
     }
     shared as u32
 }

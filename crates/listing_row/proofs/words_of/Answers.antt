@@ -9,26 +9,6 @@ pub loop-i-init : goal.loop-i-init
 loop-i-init c =
     loading_none _ _ _
 
-pub word_at-requires : goal.word_at-requires
-word_at-requires c =
-    omega arith
-
-pub offset_bounds-words-i : goal.offset_bounds-words-i
-offset_bounds-words-i c =
-    omega arith
-
-pub bounds-words-i : goal.bounds-words-i
-bounds-words-i c =
-    omega arith
-
-pub overflow_add-i : goal.overflow_add-i
-overflow_add-i c =
-    omega arith
-
-pub loop-i-smaller : goal.loop-i-smaller
-loop-i-smaller c =
-    omega arith
-
 pub loop-i-preserved : goal.loop-i-preserved
 loop-i-preserved c =
     loading_more (omega arith) c.loop-i-test.true c.word_at.ensures c.loop-i.invariant

@@ -40,18 +40,10 @@ pub slice_bounds-string_compare-end : goal.slice_bounds-string_compare-end
 slice_bounds-string_compare-end c =
     sym (length-take-le _ _ c.loop-i.invariant.short)
 
-pub overflow_add-i : goal.overflow_add-i
-overflow_add-i c =
-    omega arith
-
-pub loop-i-smaller : goal.loop-i-smaller
-loop-i-smaller c =
-    omega arith
-
 pub loop-i-preserved : goal.loop-i-preserved
 loop-i-preserved c =
     narrowed_next c.loop-i.invariant (omega arith) (c.text_of-next.ensures ∙ rw c.candidate_at.ensures refl)
-    c.string_compare-c.ensures.agree
+    c.string_compare-shared.ensures.agree
 
 pub overflow_cast-result : goal.overflow_cast-result
 overflow_cast-result c =
@@ -60,7 +52,6 @@ overflow_cast-result c =
       c.loop-i.invariant.short,
       first_length c.requires (omega arith) (c.text_of-first.ensures ∙ rw c.candidate_at-candidate.ensures refl),
       ap (λ (sp : Span). sp.len) c.candidate_at-candidate.ensures,
-      c.struct_known-1.given.1.0.fits,
     )
 
 pub returns : goal.returns
