@@ -1,24 +1,11 @@
--- Sums that stop at a limit, what a tally says past the limits, and the test of room.
-use Prim.Native.Nat.{ℕ, ◌+◌, ◌-◌, ◌<◌, ◌≤◌}
+-- What a tally says past the limits.
+use Prim.Native.Nat.{ℕ, ◌+◌, ◌<◌, ◌≤◌}
 use mathlib.Core.Path.{◌≡◌, refl}
-use mathlib.Core.Bool.{Bool, true, false}
 use mathlib.Core.Logic.{◌⊎◌, inl, inr}
 use native.Mathlib.Omega.{arith}
-use lib.Dec.{leb}
-use borrow.Author.Tests.{leb-true, leb-false}
-use Rattle.memory.specs.Sound.{Says}
 use Rattle.listing_output.specs.declared.run.Tally.{Tally}
 use Rattle.listing_output.specs.declared.run.Limits.{Limits}
 use Rattle.listing_line.specs.Goes.{Capped, Past}
-
-module _ {limit x a : ℕ} where
-  pub capped_more : (n : ℕ) → a ≤ limit → Capped limit x a → Capped limit (x + n) (a + n)
-  capped_more n h (inl e) = inl (omega arith)
-  capped_more n h (inr p) = absurd (omega arith)
-
-  pub capped_past : (n : ℕ) → limit < a → Capped limit x a → Capped limit (x + n) a
-  capped_past n h (inl e) = inr (omega arith, h)
-  capped_past n h (inr p) = inr (omega arith, h)
 
 over : (limit x k a : ℕ) → limit < x → Capped limit (x + k) a → limit < a
 over limit x k a h (inl e) = omega arith
@@ -68,11 +55,3 @@ module _ (lim : Limits) where
     pub tells_more : (i b : ℕ) → Tells i b τ → Tells (i + n) (b + m) τ'
     tells_more i b (inl p) = both i b (more_lines i (inl p.0)) (more_bytes b (inl p.1))
     tells_more i b (inr p) = inr (past_more n m p.0, still p.1)
-
-pub room_says : (at n limit lent : ℕ) → n ≤ limit - at → at ≤ limit → at ≤ lent
-    → Says (leb n (lent - at)) ((at + n ≤ limit) × (at + n ≤ lent))
-room_says at n limit lent h k l = go (leb n (lent - at)) refl
-  where
-    go : (b : Bool) → leb n (lent - at) ≡ b → Says b ((at + n ≤ limit) × (at + n ≤ lent))
-    go true e = (omega arith, omega (arith, leb-true n (lent - at) e))
-    go false e = λ p. omega (arith, leb-false n (lent - at) e)

@@ -1,21 +1,17 @@
--- A line that is counts-kept, and written where it fits.
-use Prim.Native.Nat.{ℕ, ◌+◌, ◌/◌, ◌≤◌}
+-- A line is counted, and written where it fits.
+use Prim.Native.Nat.{ℕ, ◌+◌}
 use mathlib.Core.Path.{◌≡◌, refl}
-use mathlib.Core.Bool.{Bool, true, false, not}
 use mathlib.Core.List.{List, [], ◌∷◌}
 use native.Mathlib.Omega.{arith}
 use lib.ListN.{length}
 use Rattle.source.specs.Text.{Str}
 use Rattle.source.specs.Table.{Line}
 use Rattle.memory.specs.Layout.{Which, Item}
-use Rattle.memory.specs.Sound.{Says}
-use Rattle.memory.proofs.Says.{says_passes, says_refuses}
-use Rattle.text.proofs.Laid.{laid_length}
-use Rattle.listing_output.specs.Output.{line_bytes, Written}
+use Rattle.listing_output.specs.Output.{Written}
 use Rattle.listing_output.specs.Run.{Job}
 use Rattle.listing_output.specs.declared.run.Tally.{Tally}
 use Rattle.listing_line.specs.Goes.{Capped, Fit}
-use Rattle.listing_output.specs.Parts.{Spells, JobOk, size_of, LineFits, LinePut}
+use Rattle.listing_output.specs.Parts.{Spells, JobOk, size_of}
 use Rattle.listing_line.specs.Parts.{TriedLine, PutLine}
 use Rattle.listing_line.proofs.Capped.{tells_is, tells_more}
 use Rattle.listing_output.proofs.Put.{line_size, written_line}
@@ -31,13 +27,6 @@ pub counts_kept : {j : Job} {size n m b : ℕ} → n ≡ size
     → ((x : ℕ) → Capped j.lim.bytes x j.tally.bytes → Capped j.lim.bytes (x + n) b)
     → Counted j size (record { entered = j.tally.entered; lines = m; bytes = b })
 counts_kept e f g = record { entered_same = refl; lines_more = f; bytes_more = rw e at g }
-
--- What is tested before it is written.
-abbrev RowFits : Job → List ℕ → Type 0
-RowFits j flat = (j.tally.lines + 1 ≤ j.lim.lines) × (j.tally.lines + 1 ≤ length flat / line_bytes)
-
-abbrev TextFits : Job → ℕ → List ℕ → Type 0
-TextFits j n out = (j.tally.bytes + n ≤ j.lim.bytes) × (j.tally.bytes + n ≤ length out)
 
 module _ {ws txt : List ℕ} {j : Job} (ok : JobOk ws txt j) where
   module _ {note : Str} {τ : Tally} (c : Counted j (size_of ws j note) τ) where
@@ -75,41 +64,3 @@ module _ {ws txt : List ℕ} {j : Job} (ok : JobOk ws txt j) where
     pub line_counted : {flat flat' out out' : List ℕ} → TriedLine ws txt j note flat flat' out out'
         → PutLine ws txt j note τ flat flat' out out'
     line_counted p = goes_line p.flat_size p.out_size (λ w l s e f. written_line ok s (p.put e f))
-
-  module _ {note : Str} where
-    pub tried_put : {flat flat' out out' : List ℕ} → LinePut ws txt j note flat flat' out out'
-        → TriedLine ws txt j note flat flat' out out'
-    tried_put p = record { flat_size = laid_length p.flat_laid; out_size = laid_length p.out_laid; put = λ e f. p }
-
-    -- The test of room for the row, or for the texts, says-refuses it: nothing is written.
-    pub no_row : {flat out : List ℕ} (b : Bool) → Says b (RowFits j flat) → not b ≡ true
-        → TriedLine ws txt j note flat flat out out
-    no_row b says e =
-        record {
-          flat_size = refl;
-          out_size = refl;
-          put = λ i f. absurd (says_refuses b says e (f.lines_fit, omega (arith, f.lines_fit, f.flat_lent)));
-        }
-
-    pub no_text : {flat out : List ℕ} {n : ℕ} (b : Bool) → n ≡ size_of ws j note → Says b (TextFits j n out)
-        → not b ≡ true → TriedLine ws txt j note flat flat out out
-    no_text b z says e =
-        record {
-          flat_size = refl;
-          out_size = refl;
-          put = λ i f. absurd
-              (says_refuses b says e (omega (arith, f.bytes_fit), omega (arith, f.bytes_fit, f.out_lent)));
-        }
-
-  -- Both let it pass.
-  pub both_fit : {note flat out : List ℕ} {n : ℕ} (a b : Bool) → n ≡ size_of ws j note → Says a (RowFits j flat)
-      → not a ≡ false → Says b (TextFits j n out) → not b ≡ false
-      → LineFits ws j note flat out
-  both_fit {flat = flat} {out} {n} a b z says e tells f =
-      let l : RowFits j flat = says_passes a says e in
-      let k : TextFits j n out = says_passes b tells f in
-      record {
-        flat_room = omega (arith, l.1);
-        out_room = omega (arith, k.1);
-        small = omega (arith, k.0, ok.small.bytes_small);
-      }
