@@ -51,7 +51,7 @@ fn code(r: Registration) -> u32 {
     let a = r.answer;
     match a {
         Registered::Accepted => 0,
-        Registered::Refused(x) => refusals::number(x),
+        Registered::Refused(x) => u32::from(x),
     }
 }
 
@@ -108,7 +108,7 @@ fn listed(
     let c = l.answer;
     match c {
         Completed::Listed(n, entered) => 0,
-        Completed::Refused(x) => refusals::number(x),
+        Completed::Refused(x) => u32::from(x),
     }
 }
 
@@ -119,7 +119,7 @@ fn looked(t: Table, words: &[u32], text: &[u8]) -> u32 {
     match a {
         Found::Item(n) => 0,
         Found::Nothing => 0,
-        Found::Refused(x) => refusals::number(x),
+        Found::Refused(x) => u32::from(x),
     }
 }
 

@@ -29,7 +29,7 @@ fn put_found(reply: &mut [u8], at: usize, f: Found) -> usize
         Found::Item(n) => script_replies::put_found(reply, at, n),
         Found::Nothing => script_replies::put_none(reply, at),
         Found::Refused(x) => {
-            let n = refusals::number(x);
+            let n = u32::from(x);
             script_replies::put_refused(reply, at, n)
         }
     }
@@ -111,7 +111,7 @@ fn put_completed(
             script_replies::put_end(reply, e, lines, entered)
         }
         Completed::Refused(x) => {
-            let n = refusals::number(x);
+            let n = u32::from(x);
             script_replies::put_refused(reply, at, n)
         }
     }

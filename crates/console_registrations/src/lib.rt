@@ -26,7 +26,7 @@ fn put_registered(reply: &mut [u8], at: usize, records: u32, r: Registered) -> u
     match r {
         Registered::Accepted => script_replies::put_ok(reply, at, records),
         Registered::Refused(x) => {
-            let code = refusals::number(x);
+            let code = u32::from(x);
             script_replies::put_refused(reply, at, code)
         }
     }

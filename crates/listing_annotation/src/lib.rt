@@ -52,13 +52,12 @@ fn note_of<'a>(words: &[u32], text: &'a [u8], label: u32) -> &'a [u8]
 }
 
 // Whether the item of a branch of names is of the kind.
+#[tactic(auto, unfolding(source::specs::Items::same_kind, source::specs::Items::kind_number))]
 fn is_of(words: &[u32], branch: u32, kind: ItemKind) -> bool
     requires { (0 < branch) × (branch * record_words ≤ length words.now) }
     ensures { result ≡ same_kind (lid_in (record_at words.now branch)).kind kind }
 {
-    let item = memory_access::lid_of(words, branch);
-    let held = item.kind;
-    source_item::same_kind(held, kind)
+    memory_access::lid_of(words, branch).kind == kind
 }
 
 // Whether what is asked keeps a found branch.

@@ -36,6 +36,7 @@ pub fn word_of(words: &[u32], link: u32, k: usize) -> u32
 }
 
 // The same, 0 of the link 0.
+#[tactic(auto, unfolding(memory::specs::Stored::stored))]
 pub fn stored(words: &[u32], link: u32, k: usize) -> u32
     requires { (k < record_words) × (link * record_words ≤ length words.now) }
     ensures { result ≡ stored words.now link k }
@@ -47,6 +48,7 @@ pub fn stored(words: &[u32], link: u32, k: usize) -> u32
 }
 
 // The key of a branch, or the label of a collection.
+#[tactic(auto, unfolding(memory::specs::Layout::key_at, memory::specs::Layout::span))]
 pub fn key_of<'a>(words: &[u32], text: &'a [u8], link: u32) -> &'a [u8]
     requires { TextIn words.now text.now link }
     ensures { result.now ≡ key_at words.now text.now link }
@@ -59,16 +61,14 @@ pub fn key_of<'a>(words: &[u32], text: &'a [u8], link: u32) -> &'a [u8]
 // ---- Whole records
 
 // The twelve words of the record that `link` names.
+#[tactic(auto, unfolding(memory::specs::Layout::record_at))]
 pub fn row_of(words: &[u32], link: u32) -> [u32; ROW]
     requires { (0 < link) × (link * record_words ≤ length words.now) }
     ensures { result ≡ record_at words.now link }
 {
+    let start = (link as usize - 1) * ROW;
     let mut row = [0; ROW];
-    let mut i = 0;
-    while i < ROW {
-        row[i] = word_of(words, link, i);
-        i += 1;
-    }
+    row.copy_from_slice(&words[start..start + ROW]);
     row
 }
 
@@ -158,12 +158,8 @@ pub fn put_row(words: &mut [u32], used: u32, row: &[u32; ROW])
     requires { (used * record_words + record_words ≤ length words.old) × (length row.now ≡ record_words) }
     ensures { words.new ≡ put words.old used row.now }
 {
-    let base = used as usize * ROW;
-    let mut i = 0;
-    while i < ROW {
-        words[base + i] = row[i];
-        i += 1;
-    }
+    let start = used as usize * ROW;
+    words[start..start + ROW].copy_from_slice(row);
 }
 
 // Writes the bytes of `s` into the text from `used` on.
@@ -171,10 +167,6 @@ pub fn put_text(text: &mut [u8], used: u32, s: &[u8])
     requires { used + length s.now ≤ length text.old }
     ensures { text.new ≡ put_text text.old used s.now }
 {
-    let base = used as usize;
-    let mut i = 0;
-    while i < s.len() {
-        text[base + i] = s[i];
-        i += 1;
-    }
+    let start = used as usize;
+    text[start..start + s.len()].copy_from_slice(s);
 }

@@ -1,5 +1,5 @@
 // The words of new records, as crates/memory/specs/Made.antt has them.
-ghost use Rattle.std.specs.Prelude.{◌≡◌, cond, ◌≤◌, length};
+ghost use Rattle.std.specs.Prelude.{◌≡◌, ◌≤◌, length};
 ghost use Rattle.source.specs.Limits.{record_words};
 ghost use Rattle.memory.specs.Made.{binding_row, symbol_row, namespace_row, sided_row, collection_row, trie_row};
 
@@ -21,23 +21,13 @@ pub fn binding_row(key: Span, item: LidSymbol) -> [u32; ROW]
         0,
         0,
         item.number,
-        source_item::number_of(kind),
+        u32::from(kind),
         0,
         0,
         0,
         0,
         0,
     ]
-}
-
-// 1 for true.
-fn flag_of(b: bool) -> u32
-    ensures { result ≡ cond b 1 0 }
-{
-    if b {
-        return 1;
-    }
-    0
 }
 
 // A branch of modules: its key and its mod symbol.
@@ -56,7 +46,7 @@ pub fn symbol_row(key: Span, symbol: ModSymbol) -> [u32; ROW]
             name.len,
             path.start,
             path.len,
-            flag_of(loaded),
+            u32::from(loaded),
             0,
         ],
         ModSymbol::Namespace(name, loaded) => [
@@ -70,7 +60,7 @@ pub fn symbol_row(key: Span, symbol: ModSymbol) -> [u32; ROW]
             name.len,
             0,
             0,
-            flag_of(loaded),
+            u32::from(loaded),
             0,
         ],
     }
@@ -119,7 +109,7 @@ pub fn collection_row(kind: u32, c: Collection, depth: u32) -> [u32; ROW]
         c.label.len,
         c.own,
         c.rest,
-        flag_of(c.imported),
+        u32::from(c.imported),
         0,
         0,
         0,

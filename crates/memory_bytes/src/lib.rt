@@ -1,34 +1,17 @@
 // Words spelled by bytes, four to a word, lowest first.
 #![tactic(auto)]
 
-ghost use Rattle.std.specs.Prelude.{◌≡◌, ◌+◌, ◌*◌, ◌%◌, ◌≤◌, ◌<◌, length};
+ghost use Rattle.std.specs.Prelude.{◌≡◌, ◌+◌, ◌*◌, ◌≤◌, length};
 ghost use Rattle.memory_bytes.specs.Bytes.{word_at, Put, Stored};
 
-// A byte as a word.
-fn wide(x: u8) -> u32
-    ensures { (result ≡ x) × (result < 256) }
-{
-    x as u32
-}
-
-// The lowest byte of a word.
-fn low(x: u32) -> u8
-    ensures { result ≡ x % 256 }
-{
-    (x & 255) as u8
-}
-
 // Word `k` of the bytes.
+#[tactic(auto, unfolding(crate::specs::Bytes::word_at))]
 pub fn word_at(bytes: &[u8], k: usize) -> u32
     requires { k * 4 + 4 ≤ length bytes.now }
     ensures { result ≡ word_at bytes.now k }
 {
     let at = k * 4;
-    let a = wide(bytes[at]);
-    let b = wide(bytes[at + 1]);
-    let c = wide(bytes[at + 2]);
-    let d = wide(bytes[at + 3]);
-    a + 256 * b + 65536 * c + 16777216 * d
+    u32::from_le_bytes([bytes[at], bytes[at + 1], bytes[at + 2], bytes[at + 3]])
 }
 
 // Writes word `k`.
@@ -37,10 +20,11 @@ pub fn put_word(bytes: &mut [u8], k: usize, word: u32)
     ensures { Put k word bytes.old bytes.new }
 {
     let at = k * 4;
-    bytes[at] = low(word);
-    bytes[at + 1] = low(word >> 8);
-    bytes[at + 2] = low(word >> 16);
-    bytes[at + 3] = low(word >> 24);
+    let [a, b, c, d] = word.to_le_bytes();
+    bytes[at] = a;
+    bytes[at + 1] = b;
+    bytes[at + 2] = c;
+    bytes[at + 3] = d;
 }
 
 // Copies the words from `from` up to `to` out.
@@ -48,9 +32,7 @@ pub fn store(bytes: &mut [u8], words: &[u32], from: usize, to: usize)
     requires { (to * 4 ≤ length bytes.old) × (to ≤ length words.now) }
     ensures { Stored words.now from to bytes.old bytes.new }
 {
-    let mut i = from;
-    while i < to {
+    for i in from..to {
         put_word(bytes, i, words[i]);
-        i += 1;
     }
 }

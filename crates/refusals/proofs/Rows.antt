@@ -1,4 +1,5 @@
 -- The flags of a call's arguments, and rows 1 to 4 by them.
+use Rattle.std.specs.Prelude.{Result, Ok, Err, ⊤}
 use mathlib.Core.Path.{◌≡◌, refl, sym, ap, ◌∙◌}
 use mathlib.Core.Bool.{true, false, not, or-false}
 use mathlib.Core.List.{List, [], ◌∷◌, ◌++◌}
@@ -12,8 +13,6 @@ use Rattle.refusals.specs.Refusals.{number, row_of}
 use Rattle.refusals.specs.Rows.{Flagged, AllFlagged, no_flags, both_flags, flag_rows}
 use Rattle.refusals.specs.declared.Flags.{Flags}
 use Rattle.refusals.specs.declared.Refusal.{Refusal}
-use Rattle.refusals.specs.declared.Admission.{Admission}
-use Rattle.refusals.specs.declared.Admission.TheVariants.{Admitted, Refused}
 
 pub one_flagged : {a : Argument} {f : Flags} → Flagged a f → AllFlagged (a ∷ []) f
 unfolding any
@@ -47,10 +46,10 @@ unfolding first_row argument_rows
 rows_of h = ap first_row (rows_by_flags h)
 
 -- A call that admit lets through, and one that it refuses.
-module _ {args : List Argument} {f : Flags} {a : Admission} (h : AllFlagged args f)
+module _ {args : List Argument} {f : Flags} {a : Result ⊤ Refusal} (h : AllFlagged args f)
     (e : row_of a ≡ first_row (flag_rows f)) where
-  pub admitted_none : a ≡ Admitted → first_row (argument_rows true args) ≡ none
+  pub admitted_none : {x : ⊤} → a ≡ Ok x → first_row (argument_rows true args) ≡ none
   admitted_none k = rows_of h ∙ sym (rw k at e)
 
-  pub refused_lowest : {x : Refusal} → a ≡ Refused x → first_row (argument_rows true args) ≡ some (number x)
+  pub refused_lowest : {x : Refusal} → a ≡ Err x → first_row (argument_rows true args) ≡ some (number x)
   refused_lowest k = rows_of h ∙ sym (rw k at e)

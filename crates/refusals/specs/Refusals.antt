@@ -1,10 +1,8 @@
 -- The refusals by number.
-use Rattle.std.specs.Prelude.{ℕ}
+use Rattle.std.specs.Prelude.{ℕ, Result, Ok, Err, ⊤}
 use Rattle.std.proofs.Math.Option.{Option, none, some}
 use Rattle.refusals.specs.declared.Refusal.{Refusal}
 use Rattle.refusals.specs.declared.Refusal.TheVariants.{Unsound, Malformed, Empty, TooLong, Crowded, Deep, Full, TextFull, Spent, Lines}
-use Rattle.refusals.specs.declared.Admission.{Admission}
-use Rattle.refusals.specs.declared.Admission.TheVariants.{Admitted, Refused}
 
 -- The number of a refusal. The rows of a call are a list in the order in which they are looked at: a number says nothing of a row's place in it.
 abbrev pub number : Refusal → ℕ
@@ -20,6 +18,6 @@ number Spent = 9
 number Lines = 10
 
 -- The number of the row that a call meets.
-abbrev pub row_of : Admission → Option ℕ
-row_of Admitted = none
-row_of (Refused r) = some (number r)
+abbrev pub row_of : Result ⊤ Refusal → Option ℕ
+row_of (Ok x) = none
+row_of (Err r) = some (number r)

@@ -3,7 +3,7 @@
 
 ghost use Rattle.std.specs.Prelude.{◌≡◌, ltb};
 ghost use Rattle.source.specs.Calls.{a_query, a_name, a_path, a_look_up, a_completion, first_row, whole_records, free};
-ghost use Rattle.refusals.specs.Refusals.{number, row_of};
+ghost use Rattle.refusals.specs.Refusals.{row_of};
 ghost use Rattle.refusals.specs.Rows.{Flagged, no_flags, both_flags, flag_rows, capacity_rows};
 
 use text_query::Rule;
@@ -12,7 +12,7 @@ use text_query::Rule;
 const MOST: usize = memory::CAPACITY as usize;
 
 // The refusals of the requirements.
-#[derive(Clone, Copy)]
+#[derive(Clone, Copy, PartialEq, Eq)]
 pub enum Refusal {
     Unsound,
     Malformed,
@@ -27,33 +27,31 @@ pub enum Refusal {
 }
 
 // The number of a refusal.
-pub fn number(r: Refusal) -> u32
-    ensures { result ≡ number r }
-{
-    match r {
-        Refusal::Unsound => 1,
-        Refusal::Malformed => 2,
-        Refusal::Empty => 3,
-        Refusal::TooLong => 4,
-        Refusal::Crowded => 5,
-        Refusal::Deep => 6,
-        Refusal::Full => 7,
-        Refusal::TextFull => 8,
-        Refusal::Spent => 9,
-        Refusal::Lines => 10,
-    }
-}
+impl From<Refusal> for u32 {
+    ghost use Rattle.std.specs.Prelude.{◌≡◌};
+    ghost use Rattle.refusals.specs.Refusals.{number};
 
-// Whether a call passes the rows that were tested, or the first that it meets.
-#[derive(Clone, Copy)]
-pub enum Admission {
-    Admitted,
-    Refused(Refusal),
+    ghost from_gives = { λ r n. n ≡ number r };
+
+    fn from(r: Refusal) -> u32 {
+        match r {
+            Refusal::Unsound => 1,
+            Refusal::Malformed => 2,
+            Refusal::Empty => 3,
+            Refusal::TooLong => 4,
+            Refusal::Crowded => 5,
+            Refusal::Deep => 6,
+            Refusal::Full => 7,
+            Refusal::TextFull => 8,
+            Refusal::Spent => 9,
+            Refusal::Lines => 10,
+        }
+    }
 }
 
 // ---- Arguments
 
-// Which of the rows Malformed, Empty and TooLong an argument meets.
+// Which of the rows Malformed, Empty and TooLong an argument meets. A query's Survey is no such: what is Empty differs from call to call.
 #[derive(Clone, Copy)]
 pub struct Flags {
     pub malformed: bool,
@@ -142,19 +140,20 @@ pub fn either(a: Flags, b: Flags) -> Flags
 }
 
 // Rows 2 to 4, by the flags of the arguments.
-pub fn admit(flags: Flags) -> Admission
+#[tactic(auto, unfolding(source::specs::Calls::first_row))]
+pub fn admit(flags: Flags) -> Result<(), Refusal>
     ensures { row_of result ≡ first_row (flag_rows flags) }
 {
     if flags.malformed {
-        return Admission::Refused(Refusal::Malformed);
+        return Err(Refusal::Malformed);
     }
     if flags.empty {
-        return Admission::Refused(Refusal::Empty);
+        return Err(Refusal::Empty);
     }
     if flags.long {
-        return Admission::Refused(Refusal::TooLong);
+        return Err(Refusal::TooLong);
     }
-    Admission::Admitted
+    Ok(())
 }
 
 // ---- Capacity
@@ -178,20 +177,11 @@ pub struct Demand {
 }
 
 // Free: what is lent, up to 65,536, less what is used.
+#[tactic(auto, unfolding(source::specs::Calls::free))]
 fn free(lent: usize, used: u32) -> usize
     ensures { result ≡ free lent used }
 {
-    let taken = used as usize;
-    if lent < MOST {
-        if lent < taken {
-            return 0;
-        }
-        return lent - taken;
-    }
-    if MOST < taken {
-        return 0;
-    }
-    MOST - taken
+    lent.min(MOST).saturating_sub(used as usize)
 }
 
 // Row 7, by multiplication: records fit where twelve words are lent for each. A call that needs none passes.
@@ -203,20 +193,21 @@ fn full(words: usize, used: u32, needed: u32) -> bool
 }
 
 // Rows 5 to 8.
-pub fn afford(demand: Demand, c: Capacity) -> Admission
+#[tactic(auto, unfolding(source::specs::Calls::first_row))]
+pub fn afford(demand: Demand, c: Capacity) -> Result<(), Refusal>
     ensures { row_of result ≡ first_row (capacity_rows demand c) }
 {
     if demand.crowded {
-        return Admission::Refused(Refusal::Crowded);
+        return Err(Refusal::Crowded);
     }
     if demand.deep {
-        return Admission::Refused(Refusal::Deep);
+        return Err(Refusal::Deep);
     }
     if full(c.words, c.records, demand.records) {
-        return Admission::Refused(Refusal::Full);
+        return Err(Refusal::Full);
     }
     if free(c.text, c.used) < demand.text {
-        return Admission::Refused(Refusal::TextFull);
+        return Err(Refusal::TextFull);
     }
-    Admission::Admitted
+    Ok(())
 }

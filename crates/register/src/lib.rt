@@ -16,7 +16,7 @@ ghost use Rattle.register.specs.Writes.{TextsLaid, with_root, Accepts};
 
 use memory::Span;
 use memory_table::Header;
-use refusals::{Admission, Capacity, Demand, Flags, Refusal};
+use refusals::{Capacity, Demand, Flags, Refusal};
 use register_change::Descent;
 use register_kind::{CallKind, Entry, Form};
 use register_leaf::Change;
@@ -98,34 +98,25 @@ pub fn check(
     ensures { Checks words.now text.now h entry.kind host.now other.now key.now way.new result }
 {
     let kind = entry.kind;
-    let a = refusals::admit(flags_of(kind, host, other, key));
-    match a {
-        Admission::Refused(x) => Err(x),
-        Admission::Admitted => {
-            let s = register_kind::shape_of(kind);
-            let form = s.form;
-            way[INCLUDED] = included(words, text, h.names, form, other);
-            let root = root_of(h, form);
-            let p = register_plan::plan_of(words, text, root, kind, host, other, key, way);
-            let demand = Demand {
-                crowded: p.crowded,
-                deep: p.deep,
-                records: p.records,
-                text: host.len() + other.len() + key.len(),
-            };
-            let capacity = Capacity {
-                words: words.len(),
-                records: h.records,
-                text: text.len(),
-                used: h.text,
-            };
-            let b = refusals::afford(demand, capacity);
-            match b {
-                Admission::Refused(x) => Err(x),
-                Admission::Admitted => Ok(()),
-            }
-        }
-    }
+    refusals::admit(flags_of(kind, host, other, key))?;
+    let s = register_kind::shape_of(kind);
+    let form = s.form;
+    way[INCLUDED] = included(words, text, h.names, form, other);
+    let root = root_of(h, form);
+    let p = register_plan::plan_of(words, text, root, kind, host, other, key, way);
+    let demand = Demand {
+        crowded: p.crowded,
+        deep: p.deep,
+        records: p.records,
+        text: host.len() + other.len() + key.len(),
+    };
+    let capacity = Capacity {
+        words: words.len(),
+        records: h.records,
+        text: text.len(),
+        used: h.text,
+    };
+    refusals::afford(demand, capacity)
 }
 
 // Writes the texts of a registration after the used ones.

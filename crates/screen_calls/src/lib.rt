@@ -58,7 +58,7 @@ fn enter(
             screen_memory::save(state, words, memory, t.header.records, h.header);
             0
         }
-        Registered::Refused(x) => refusals::number(x),
+        Registered::Refused(x) => u32::from(x),
     }
 }
 

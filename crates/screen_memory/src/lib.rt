@@ -16,26 +16,22 @@ const RECORDS: usize = 1024;
 pub const WORDS: usize = RECORDS * memory::ROW;
 
 // How many words count as lent, of so many bytes, four to a word. How many whole records they are is asked where records are counted.
+#[tactic(auto, unfolding(crate::specs::Memory::words_lent))]
 fn words_lent(size: usize) -> usize
     ensures { result ≡ words_lent size }
 {
-    let n = size >> 2;
-    if n < WORDS {
-        return n;
-    }
-    WORDS
+    (size / 4).min(WORDS)
 }
 
 // Copies the lent words in, and says how many they are.
+#[tactic(auto, unfolding(crate::specs::Memory::words_lent))]
 pub fn load(bytes: &[u8], words: &mut [u32]) -> usize
     requires { words_lent_most ≤ length words.old }
     ensures { Loaded bytes.now words.new result }
 {
     let n = words_lent(bytes.len());
-    let mut i = 0;
-    while i < n {
+    for i in 0..n {
         words[i] = memory_bytes::word_at(bytes, i);
-        i += 1;
     }
     n
 }

@@ -97,12 +97,12 @@ pub fn name_reply(x: Finding) -> NameReply
             let kind = item.kind;
             NameReply {
                 answer: 0,
-                kind: source_item::number_of(kind),
+                kind: u32::from(kind),
                 number: item.number,
             }
         }
         Found::Nothing => no_name(NONE),
-        Found::Refused(x) => no_name(refusals::number(x)),
+        Found::Refused(x) => no_name(u32::from(x)),
     }
 }
 
@@ -150,7 +150,7 @@ pub fn module_reply(x: ModuleFinding) -> ModuleReply
     match f {
         FoundModule::Symbol(s) => symbol_reply(s),
         FoundModule::Nothing => no_module(NONE),
-        FoundModule::Refused(x) => no_module(refusals::number(x)),
+        FoundModule::Refused(x) => no_module(u32::from(x)),
     }
 }
 
@@ -176,7 +176,7 @@ pub fn lines_reply(x: Listing) -> CompleteReply
             lines: lines,
             entered: entered,
         },
-        Completed::Refused(x) => no_lines(refusals::number(x)),
+        Completed::Refused(x) => no_lines(u32::from(x)),
     }
 }
 

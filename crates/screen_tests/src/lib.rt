@@ -55,7 +55,7 @@ fn refusal_of(a: Registered) -> u32
 {
     match a {
         Registered::Accepted => 0,
-        Registered::Refused(x) => refusals::number(x),
+        Registered::Refused(x) => u32::from(x),
     }
 }
 

@@ -1,9 +1,10 @@
 -- An item of the names table, a LidSymbol of src/lib.rt: the number and the letter of its kind.
-use Rattle.std.specs.Prelude.{ℕ, zero, suc, Bool, true, false, eqb}
+use Rattle.std.specs.Prelude.{ℕ, zero, suc, Bool, true, false, eqb, ◌≡◌, Result, MatchResult}
 use Rattle.std.proofs.Math.Option.{Option, none, some}
 use Rattle.source.specs.Tries.{dflt}
 use Rattle.source.specs.declared.ItemKind.{ItemKind}
 use Rattle.source.specs.declared.ItemKind.TheVariants.{Timer, Port, Register}
+use Rattle.source.specs.declared.NoKind.{NoKind}
 
 -- The number of a kind, in the memory, in a line and in C.
 unfoldable pub kind_number : ItemKind → ℕ
@@ -18,6 +19,10 @@ kind_for (suc zero) = some Timer
 kind_for (suc (suc zero)) = some Port
 kind_for (suc (suc (suc zero))) = some Register
 kind_for (suc (suc (suc (suc n)))) = none
+
+-- A number read as a kind: its kind, or the number that is no kind's.
+abbrev pub KindOf : ℕ → Result ItemKind NoKind → Type 0
+KindOf n r = MatchResult r (λ kind. kind_for n ≡ some kind) (λ e. (kind_for n ≡ none) × (e.0 ≡ n))
 
 unfoldable pub is_kind : ℕ → Bool
 is_kind n = elim (kind_for n) [ none ↦ false | some k ↦ true ]

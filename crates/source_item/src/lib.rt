@@ -1,46 +1,29 @@
-// The kinds of items of the names table, by number and by letter.
+// A word read as the kind of an item, and the letter of a kind.
 #![tactic(auto)]
 
 ghost use Rattle.std.specs.Prelude.{◌≡◌};
-ghost use Rattle.source.specs.Items.{kind_number, is_kind, read_kind, same_kind, kind_letter};
+ghost use Rattle.source.specs.Items.{is_kind, read_kind, kind_letter};
 
 use source::ItemKind;
 
-// The number of a kind.
-pub fn number_of(kind: ItemKind) -> u32
-    ensures { result ≡ kind_number kind }
-{
-    match kind {
-        ItemKind::Timer => 1,
-        ItemKind::Port => 2,
-        ItemKind::Register => 3,
-    }
-}
-
 // Whether a number is a kind's.
+#[tactic(auto, unfolding(source::specs::Items::is_kind))]
 pub fn is_kind(n: u32) -> bool
     ensures { result ≡ is_kind n }
 {
-    if n == 0 {
-        return false;
-    }
-    n < 4
+    ItemKind::try_from(n).is_ok()
 }
 
-// The kind that a number reads as: another number than the three as Register.
+// The kind that a number reads as: another number than the three as Register, since no read fails.
+#[tactic(auto, unfolding(source::specs::Items::read_kind, source::specs::Tries::dflt))]
 pub fn kind_of(n: u32) -> ItemKind
     ensures { result ≡ read_kind n }
 {
-    if n == 1 {
-        return ItemKind::Timer;
-    }
-    if n == 2 {
-        return ItemKind::Port;
-    }
-    ItemKind::Register
+    ItemKind::try_from(n).unwrap_or(ItemKind::Register)
 }
 
 // The letter of a kind in a script.
+#[tactic(auto, unfolding(source::specs::Items::kind_letter))]
 pub fn letter_of(kind: ItemKind) -> u8
     ensures { result ≡ kind_letter kind }
 {
@@ -49,11 +32,4 @@ pub fn letter_of(kind: ItemKind) -> u8
         ItemKind::Port => b'p',
         ItemKind::Register => b'r',
     }
-}
-
-// Whether two kinds are the same.
-pub fn same_kind(a: ItemKind, b: ItemKind) -> bool
-    ensures { result ≡ same_kind a b }
-{
-    number_of(a) == number_of(b)
 }

@@ -14,7 +14,7 @@ use listing::Completed;
 use listing_ask::{Ask, Request};
 use memory::ModSymbol;
 use memory_table::Header;
-use refusals::{Admission, Refusal};
+use refusals::Refusal;
 use source::LidSymbol;
 
 // What a look-up ends at: a branch of bindings, or none.
@@ -48,8 +48,8 @@ fn look_up(words: &[u32], text: &[u8], root: u32, query: &[u8]) -> Looked
 {
     let a = refusals::admit(refusals::look_up_flags(query));
     match a {
-        Admission::Refused(x) => Looked::Refused(x),
-        Admission::Admitted => {
+        Err(x) => Looked::Refused(x),
+        Ok(()) => {
             let link = find_trie::trie_find_exact(words, text, root, query);
             if link == 0 {
                 return Looked::Nothing;
@@ -116,8 +116,8 @@ pub fn complete(
 {
     let a = refusals::admit(refusals::completion_flags(query));
     match a {
-        Admission::Refused(x) => Completed::Refused(x),
-        Admission::Admitted => {
+        Err(x) => Completed::Refused(x),
+        Ok(()) => {
             let ask = request.ask;
             let root = root_for(header, ask);
             let end = header.records as usize * memory::ROW;

@@ -19,4 +19,4 @@ returns-in-Listed c =
 
 pub returns-in-Refused : goal.returns-in-Refused
 returns-in-Refused c =
-    rw c.in-Refused.is (rw c.number-n.ensures at c.put_refused.ensures)
+    rw c.in-Refused.is (rw c.from-n.ensures at c.put_refused.ensures)

@@ -11,4 +11,4 @@ returns-in-Nothing c =
 
 pub returns-in-Refused : goal.returns-in-Refused
 returns-in-Refused c =
-    rw c.in-Refused.is (rw c.number-n.ensures at c.put_refused.ensures)
+    rw c.in-Refused.is (rw c.from-n.ensures at c.put_refused.ensures)

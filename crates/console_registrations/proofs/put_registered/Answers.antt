@@ -7,4 +7,4 @@ returns-in-Accepted c =
 
 pub returns-in-Refused : goal.returns-in-Refused
 returns-in-Refused c =
-    rw c.in-Refused.is (rw c.number-code.ensures at c.put_refused.ensures)
+    rw c.in-Refused.is (rw c.from-code.ensures at c.put_refused.ensures)

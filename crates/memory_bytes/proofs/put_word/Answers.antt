@@ -1,22 +1,9 @@
 -- put_word meets its contract.
 use native.Mathlib.Omega.{arith}
-use lib.ListN.{length-set}
 use Rattle.memory_bytes.proofs.Bytes.{word_put}
 use Rattle.memory_bytes.proofs.put_word.Goals as goal
 
-pub bounds-bytes-at-2 : goal.bounds-bytes-at-2
-bounds-bytes-at-2 c =
-    simp length-set (omega arith)
-
-pub bounds-bytes-at-3 : goal.bounds-bytes-at-3
-bounds-bytes-at-3 c =
-    simp length-set (omega arith)
-
-pub bounds-bytes-at-4 : goal.bounds-bytes-at-4
-bounds-bytes-at-4 c =
-    simp length-set (omega arith)
-
 pub returns : goal.returns
 returns c =
-    word_put c.args.bytes.now c.args.k _ _ _ _ c.requires c.args.word c.low.ensures c.low-2.ensures c.low-3.ensures
-    (omega (arith, c.low-4.ensures))
+    rw c.to_le_bytes.ensures (word_put c.args.bytes.now c.args.k _ _ _ _ c.requires c.args.word
+    (omega arith) (omega arith) (omega arith) (omega (arith, c.ranges.word.fits)))

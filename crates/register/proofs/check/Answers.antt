@@ -16,7 +16,7 @@ included-requires c =
       at = names_trie c.requires.sound;
       other_value =
           rw c.shape_of-s.ensures (call_ready c.args.entry.kind c.args.host.now c.args.other.now c.args.key.now
-          (argument_rows_none _ _ (admitted_none c.flags_of.ensures c.admit-a.ensures c.in-Admitted.is))).other_fine;
+          (argument_rows_none _ _ (admitted_none c.flags_of.ensures c.admit-a.ensures c.in-Ok.is))).other_fine;
     }
 
 pub plan_of-p-requires : goal.plan_of-p-requires
@@ -24,7 +24,7 @@ plan_of-p-requires c =
     let included = c.included.result in let a = c.args in record {
       at = rw (c.root_of-root.ensures, c.shape_of-s.ensures) (either_trie c.requires.sound (which_by (shape_of a.entry.kind).form));
       host_value = let r = call_ready a.entry.kind a.host.now a.other.now a.key.now
-          (argument_rows_none _ _ (admitted_none c.flags_of.ensures c.admit-a.ensures c.in-Admitted.is)) in
+          (argument_rows_none _ _ (admitted_none c.flags_of.ensures c.admit-a.ensures c.in-Ok.is)) in
           (r.host_ends, r.host_keeps.few, (included_written a.way.now included c.requires.no_key.1).1);
       carries = rw (c.root_of-root.ensures, (included_written a.way.now included c.requires.no_key.1).0, ← c.shape_of-s.ensures)
           (carries_root a.words.now a.text.now a.h c.shape_of-s.result.form a.other.now included c.included.ensures);
@@ -33,30 +33,30 @@ plan_of-p-requires c =
 pub overflow_add-demand : goal.overflow_add-demand
 overflow_add-demand c =
     let s = ready_short c.args.entry.kind c.args.host.now c.args.other.now c.args.key.now
-    (call_ready _ _ _ _ (argument_rows_none _ _ (admitted_none c.flags_of.ensures c.admit-a.ensures c.in-Admitted.is)))
+    (call_ready _ _ _ _ (argument_rows_none _ _ (admitted_none c.flags_of.ensures c.admit-a.ensures c.in-Ok.is)))
     c.requires.no_key.0 in omega (arith, s.host_short, s.other_short, s.key_short)
 
-pub overflow_add-demand-in-Admitted : goal.overflow_add-demand-in-Admitted
-overflow_add-demand-in-Admitted c =
+pub overflow_add-demand-in-Ok : goal.overflow_add-demand-in-Ok
+overflow_add-demand-in-Ok c =
     let s = ready_short c.args.entry.kind c.args.host.now c.args.other.now c.args.key.now
-    (call_ready _ _ _ _ (argument_rows_none _ _ (admitted_none c.flags_of.ensures c.admit-a.ensures c.in-Admitted.is)))
+    (call_ready _ _ _ _ (argument_rows_none _ _ (admitted_none c.flags_of.ensures c.admit-a.ensures c.in-Ok.is)))
     c.requires.no_key.0 in omega (arith, s.host_short, s.other_short, s.key_short)
 
-pub returns-in-Refused : goal.returns-in-Refused
-returns-in-Refused c =
+pub returns-in-Err : goal.returns-in-Err
+returns-in-Err c =
     rows_refused _ _ _
-    (refused_lowest c.flags_of.ensures c.admit-a.ensures c.in-Refused.is)
+    (refused_lowest c.flags_of.ensures c.admit-a.ensures c.in-Err.is)
 
-pub returns-in-Refused-b : goal.returns-in-Refused-b
-returns-in-Refused-b c =
+pub returns-in-Err-b : goal.returns-in-Err-b
+returns-in-Err-b c =
     rows_planned _ _ _ (sound_table c.requires.sound) (c.plan_of-p.ensures.kind_planned _
     (rw (c.root_of-root.ensures, c.shape_of-s.ensures) (root_reads _ _ _ (which_by (shape_of c.args.entry.kind).form))))
     (sym (taken_all c.args.entry.kind c.args.host.now c.args.other.now c.args.key.now c.requires.no_key.0))
-    (admitted_none c.flags_of.ensures c.admit-a.ensures c.in-Admitted.is)
-    ∙ sym (rw c.in-Refused-b.is at c.afford-b.ensures)
+    (admitted_none c.flags_of.ensures c.admit-a.ensures c.in-Ok.is)
+    ∙ sym (rw c.in-Err-b.is at c.afford-b.ensures)
 
-pub returns-in-Admitted-b : goal.returns-in-Admitted-b
-returns-in-Admitted-b c =
+pub returns-in-Ok-b : goal.returns-in-Ok-b
+returns-in-Ok-b c =
     let plan-of = c.plan_of-p.ensures in let included = c.included in let shape-of' = c.shape_of-s.ensures in let a = c.args in
     record {
       sound = c.requires.sound;
@@ -65,8 +65,8 @@ returns-in-Admitted-b c =
           (plan-of.kind_planned _
           (rw (c.root_of-root.ensures, shape-of') (root_reads _ _ _ (which_by (shape_of a.entry.kind).form))))
           (sym (taken_all a.entry.kind a.host.now a.other.now a.key.now c.requires.no_key.0))
-          (admitted_none c.flags_of.ensures c.admit-a.ensures c.in-Admitted.is)
-          ∙ sym (rw c.in-Admitted-b.is at c.afford-b.ensures);
+          (admitted_none c.flags_of.ensures c.admit-a.ensures c.in-Ok.is)
+          ∙ sym (rw c.in-Ok-b.is at c.afford-b.ensures);
       size = (included_stays a.way.now included.result c.requires.no_key.1 plan-of.way_noted.kept).1;
       carries = rw (
         (included_stays a.way.now included.result c.requires.no_key.1 plan-of.way_noted.kept).0,

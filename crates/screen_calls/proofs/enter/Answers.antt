@@ -34,4 +34,4 @@ pub returns-in-Refused : goal.returns-in-Refused
 returns-in-Refused c =
     reply_refused (held_is c.requires.state_len c.table_of-t.ensures c.requires.memory_value)
     (says_holds c.is_sound_small.result c.is_sound_small.ensures c.if-not-is_sound_small.false) c.register_sound-r.ensures
-    (ap refusal_of c.in-Refused.is) c.number.ensures
+    (ap refusal_of c.in-Refused.is) c.from.ensures

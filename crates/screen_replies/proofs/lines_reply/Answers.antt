@@ -9,4 +9,4 @@ returns-in-Listed c =
 
 pub returns-in-Refused : goal.returns-in-Refused
 returns-in-Refused c =
-    rw c.in-Refused.is (c.no_lines.ensures ∙ ap no_lines c.number.ensures)
+    rw c.in-Refused.is (c.no_lines.ensures ∙ ap no_lines c.from.ensures)

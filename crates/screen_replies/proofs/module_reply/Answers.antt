@@ -9,4 +9,4 @@ returns-in-Nothing c =
 
 pub returns-in-Refused : goal.returns-in-Refused
 returns-in-Refused c =
-    rw c.in-Refused.is (c.no_module-in-Refused.ensures ∙ ap no_module c.number.ensures)
+    rw c.in-Refused.is (c.no_module-in-Refused.ensures ∙ ap no_module c.from.ensures)

@@ -7,7 +7,7 @@ use Rattle.screen_replies.proofs.name_reply.Goals as goal
 
 pub returns-in-Item : goal.returns-in-Item
 returns-in-Item c =
-    rw (c.in-Item.is, c.number_of.ensures)
+    rw (c.in-Item.is, c.from-in-Refused.ensures)
 
 pub returns-in-Nothing : goal.returns-in-Nothing
 returns-in-Nothing c =
@@ -15,4 +15,4 @@ returns-in-Nothing c =
 
 pub returns-in-Refused : goal.returns-in-Refused
 returns-in-Refused c =
-    rw c.in-Refused.is (c.no_name-in-Refused.ensures ∙ ap (λ (n : ℕ). name_reply (refused n)) c.number.ensures)
+    rw c.in-Refused.is (c.no_name-in-Refused.ensures ∙ ap (λ (n : ℕ). name_reply (refused n)) c.from-in-Refused.ensures)

@@ -33,14 +33,14 @@ pub complete-requires : goal.complete-requires
 complete-requires c =
     record {
       at = rw c.root_for-root.ensures (root_trie (used_part_sound c.requires) c.args.request.ask);
-      query_value = admitted_none (one_flagged c.completion_flags.ensures) c.admit-a.ensures c.in-Admitted.is;
+      query_value = admitted_none (one_flagged c.completion_flags.ensures) c.admit-a.ensures c.in-Ok.is;
     }
 
-pub returns-in-Refused : goal.returns-in-Refused
-returns-in-Refused c =
+pub returns-in-Err : goal.returns-in-Err
+returns-in-Err c =
     completes_refused (refused_lowest (one_flagged c.completion_flags.ensures)
-    c.admit-a.ensures c.in-Refused.is)
+    c.admit-a.ensures c.in-Err.is)
 
-pub returns-in-Admitted : goal.returns-in-Admitted
-returns-in-Admitted c =
+pub returns-in-Ok : goal.returns-in-Ok
+returns-in-Ok c =
     rw c.root_for-root.ensures at c.complete.ensures

@@ -8,7 +8,7 @@ trie_find_exact-link-requires c =
     record {
       any_trie = c.requires;
       query_value = look_up_query_whole _
-          (admitted_none (one_flagged c.look_up_flags.ensures) c.admit-a.ensures c.in-Admitted.is);
+          (admitted_none (one_flagged c.look_up_flags.ensures) c.admit-a.ensures c.in-Ok.is);
     }
 
 pub returns-then-link-eq0 : goal.returns-then-link-eq0
@@ -17,16 +17,16 @@ returns-then-link-eq0 c =
       fits = tt;
       link = λ w t. tt;
       says = λ w t. look_up_none _ (admitted_none (one_flagged c.look_up_flags.ensures) c.admit-a.ensures
-          c.in-Admitted.is) (c.trie_find_exact-link.ensures w t) c.if-link-eq0.true;
+          c.in-Ok.is) (c.trie_find_exact-link.ensures w t) c.if-link-eq0.true;
     }
 
-pub returns-in-Refused : goal.returns-in-Refused
-returns-in-Refused c =
+pub returns-in-Err : goal.returns-in-Err
+returns-in-Err c =
     record {
       fits = tt;
       link = λ w t. tt;
       says = λ w t. look_up_rows_refused _ _ (refused_lowest (one_flagged c.look_up_flags.ensures)
-          c.admit-a.ensures c.in-Refused.is);
+          c.admit-a.ensures c.in-Err.is);
     }
 
 pub returns-else-link-eq0 : goal.returns-else-link-eq0
@@ -35,5 +35,5 @@ returns-else-link-eq0 c =
       fits = found_fits c.requires trie_find_exact c.if-link-eq0.false;
       link = λ w t. (trie_find_exact w t).link;
       says = λ w t. look_up_found _ (admitted_none (one_flagged c.look_up_flags.ensures) c.admit-a.ensures
-          c.in-Admitted.is) (trie_find_exact w t) c.if-link-eq0.false;
+          c.in-Ok.is) (trie_find_exact w t) c.if-link-eq0.false;
     }
