@@ -7,7 +7,7 @@ use Rattle.screen_replies.proofs.name_reply.Goals as goal
 
 pub returns-in-Item : goal.returns-in-Item
 returns-in-Item c =
-    rw (c.in-Item.is, c.from-in-Refused.ensures)
+    rw (c.in-Item.is, c.from.ensures)
 
 pub returns-in-Nothing : goal.returns-in-Nothing
 returns-in-Nothing c =
