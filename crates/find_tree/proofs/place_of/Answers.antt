@@ -1,24 +1,8 @@
 -- place_of meets its contract: what the tree at hand says is what the whole says.
-use Rattle.find_tree.proofs.Branches.{tree_fits, sides_earlier}
-use Rattle.find_tree.proofs.Placed.{search_all, search_left, search_right, search_here, search_none}
+use Rattle.find_tree.proofs.Branches.{sides_earlier}
+use Rattle.find_tree.proofs.Placed.{search_left, search_right, search_here, search_none}
 use native.Mathlib.Omega.{arith}
 use Rattle.find_tree.proofs.place_of.Goals as goal
-
-pub loop-link-init : goal.loop-link-init
-loop-link-init c =
-    search_all c.requires
-
-pub key_order-requires : goal.key_order-requires
-key_order-requires c =
-    (c.loop-link-test.true, c.loop-link.invariant.any)
-
-pub left_of-link-requires : goal.left_of-link-requires
-left_of-link-requires c =
-    omega (arith, tree_fits c.loop-link.invariant.any, c.loop-link-test.true)
-
-pub overflow_add-count : goal.overflow_add-count
-overflow_add-count c =
-    omega (arith, c.loop-link.invariant.small)
 
 pub loop-link-smaller-in-Less : goal.loop-link-smaller-in-Less
 loop-link-smaller-in-Less c =
@@ -32,14 +16,6 @@ loop-link-preserved-in-Less c =
 pub returns-in-Equal : goal.returns-in-Equal
 returns-in-Equal c =
     search_here c.loop-link.invariant c.loop-link-test.true (rw c.in-Equal.is at c.key_order.ensures)
-
-pub right_of-link-requires : goal.right_of-link-requires
-right_of-link-requires c =
-    omega (arith, tree_fits c.loop-link.invariant.any, c.loop-link-test.true)
-
-pub overflow_add-count-in-Greater : goal.overflow_add-count-in-Greater
-overflow_add-count-in-Greater c =
-    omega (arith, c.loop-link.invariant.small)
 
 pub loop-link-smaller : goal.loop-link-smaller
 loop-link-smaller c =

@@ -1,6 +1,5 @@
 -- beginning meets its contract: n is the number of the first i bytes.
 use Prim.Native.Nat.{◌<◌}
-use mathlib.Core.Path.{◌≡◌}
 use native.Mathlib.Omega.{arith}
 use Rattle.text.proofs.Beginnings.{leading_none, leading_byte, leading_end, leading_fits}
 use Rattle.text.proofs.beginning.Goals.{then-i-s, else-i-s}
@@ -14,10 +13,6 @@ pub overflow_mul-n : goal.overflow_mul-n
 overflow_mul-n c =
     omega (arith, leading_fits c.loop-i.invariant (omega arith))
 
-pub overflow_add-n : goal.overflow_add-n
-overflow_add-n c =
-    omega (arith, c.type_inv.s c.loop-i.i, leading_fits c.loop-i.invariant (omega arith))
-
 pub loop-i-preserved : goal.loop-i-preserved
 loop-i-preserved c =
     let o = c.loop-i.invariant in
@@ -26,7 +21,3 @@ loop-i-preserved c =
       | then-i-s w ↦ rw (w.n-is, w.from-n.ensures) (leading_byte o h (omega (arith, c.type_inv.s c.loop-i.i)))
       | else-i-s w ↦ rw w.n-is (leading_end o h (omega (arith, w.if-i-s.false)))
     ]
-
-pub returns : goal.returns
-returns c =
-    let o = c.loop-i.invariant in let e : c.loop-i.i ≡ 8 = omega (arith, o.few, c.loop-i-test.false) in rw e at o.is
