@@ -6,9 +6,9 @@ use mathlib.Core.List.{[], ◌∷◌, nil≢cons}
 use mathlib.Core.Option.{none, some}
 use native.Mathlib.Omega.{arith}
 use native.Mathlib.Numerals.{add-one}
-use lib.IntN.{ℤ, pos}
+use lib.IntN.{pos}
 use lib.ListN.{length, take, drop, length-drop}
-use lib.Seq.{length-take-le}
+use lib.Seq.{length-take-le, take_all}
 use borrow.Author.Tests.{ne_eqb}
 use Rattle.source.specs.Calls.{signed_word}
 use Rattle.source.specs.Text.{Str, Query, segments, ends_in_dot}
@@ -18,6 +18,7 @@ use Rattle.text_query.specs.Queries.{before_dot}
 use Rattle.text_query.proofs.Segments.{first_segment, before_inside}
 use Rattle.find_list.specs.Entries.{by_prefix, by_all}
 use Rattle.listing_output.specs.declared.Want.{Want}
+use Rattle.listing_step.specs.declared.Cut.{Cut}
 use Rattle.listing_step.specs.Steps.{Cuts}
 
 signed_small : (m : ℕ) → m < 4294967295 → signed_word m ≡ pos m
@@ -25,23 +26,27 @@ unfolding signed_word
 signed_small m h = rw (ne_eqb m 4294967295 (λ e. omega arith))
 
 -- No segment left: an element that is not matched adds nothing.
-pub cuts_none : (query : Str) (len : ℕ) (want : Want) → length query ≡ 0
-    → Cuts query len want (record { len = 0; next = 0; want = want })
+pub cuts_none : (query : Str) (len : ℕ) (c : Cut) → length query ≡ 0 → c.prefix.now ≡ query → c.rest.now ≡ query
+    → Cuts query len c.want c
 unfolding segments ns_search_term bindings_search_term ends_in_dot
-cuts_none [] len want e = record {
+cuts_none [] len c e p r = record {
+  len = 0;
+  next = 0;
   within = omega arith;
   inside = omega arith;
-  ends = refl;
+  prefix_part = p;
+  rest_part = r;
+  ends = rw r;
   prefix_is = none;
-  asks = by_all;
-  rest = refl;
+  asks = rw p by_all;
+  rest = rw r;
   last_one = λ h. refl;
-  more = λ h. absurd (omega arith);
+  more = λ h. absurd (omega (arith, ap length r));
   steps = λ path l m el p. record { length_is = match_length_skip el path p ∙ m.length_is; all_matched = λ n. absurd (n refl) };
   told = λ h. h;
   ask_same = refl;
 }
-cuts_none (b ∷ s) len want e = absurd (omega arith)
+cuts_none (b ∷ s) len c e p r = absurd (omega arith)
 
 no_rest : (s : Str) → length s ≡ 0 → segments s ≡ []
 unfolding segments
@@ -56,27 +61,32 @@ unfolding bindings_search_term
 two s x = rw x.2
 
 -- A segment: what it takes is matched.
-pub cuts_some : (query : Str) (len : ℕ) (want : Want) (k : ℕ) (m : ℤ) → ends_in_dot query ≡ true
+pub cuts_some : (query : Str) (len : ℕ) (want : Want) (c : Cut) (k : ℕ) → ends_in_dot query ≡ true
     → (length query ≡ 0 → ⊥)
     → length query ≤ 544 → len ≤ 544
-    → k ≡ before_dot query → m ≡ pos (len + k)
-    → Cuts query len want (record { len = k; next = k + 1; want = record { ask = want.ask; matched = m } })
+    → k ≡ before_dot query → c.prefix.now ≡ take k query → c.rest.now ≡ drop (k + 1) query
+    → c.want.ask ≡ want.ask → c.want.matched ≡ pos (len + k) → Cuts query len want c
 unfolding ns_search_term bindings_search_term
-cuts_some query len want k m d n short small e em =
+cuts_some query len want c k d n short small e ep er ea em =
     let inside = before_inside query d (omega arith) in
     let f = first_segment query inside in
     let split : segments query ≡ take k query ∷ segments (drop (k + 1) query) = rw (add-one k, e) f.splits in
     let left : length (drop (k + 1) query) ≡ length query - (k + 1) = length-drop (k + 1) query in
     record {
+      len = k;
+      next = k + 1;
       within = omega arith;
       inside = omega arith;
-      ends = rw (add-one k, e) (f.ends ∙ d);
+      prefix_part = ep;
+      rest_part = er;
+      ends = rw (er, add-one k, e) (f.ends ∙ d);
       prefix_is = some (take k query);
-      asks = rw split by_prefix;
-      rest = rw split;
-      last_one = λ h. rw (split, no_rest (drop (k + 1) query) (omega arith)) refl;
+      asks = rw (ep, split) by_prefix;
+      rest = rw (er, split);
+      last_one = λ h. rw (split, no_rest (drop (k + 1) query) (omega (arith, ap length er))) refl;
       more = λ h. rw split
-          (two (take k query) (some_rest (drop (k + 1) query) (rw (add-one k, e) (f.ends ∙ d)) (omega arith)));
+          (two (take k query)
+          (some_rest (drop (k + 1) query) (rw (add-one k, e) (f.ends ∙ d)) (omega (arith, ap length er))));
       steps = λ path l g el p.
           record {
             length_is =
@@ -91,9 +101,9 @@ cuts_some query len want k m d n short small e em =
             all_matched = λ z. ((take k query, p), g.all_matched (λ z. nil≢cons (sym z ∙ split)));
           };
       told = λ h. rw em (signed_small (len + k) (omega arith));
-      ask_same = refl;
+      ask_same = ea;
     }
 
--- What `&s[0..n]` holds.
-pub front_is : (s : Str) (n : ℕ) → take (n - 0) (drop 0 s) ≡ take n s
-front_is s n = let e : n - 0 ≡ n = omega arith in ap (λ (k : ℕ). take k s) e
+-- What `&s[n..]` holds.
+pub back_is : (s : Str) (n : ℕ) → take (length s - n) (drop n s) ≡ drop n s
+back_is s n = take_all (length s - n) (drop n s) (omega (arith, length-drop n s))

@@ -31,24 +31,28 @@ abbrev pub MatchingOn : (path : PathOf) (o : Option Str) (q : Query) (m : ℤ) �
 MatchingOn path o q m = (el : PathElem) → el.segment.prefix ≡ o → Matching (el ∷ path) q m
 
 -- Where a query is cut: before its first dot, and after it. An empty one has no segment.
-pub record Cuts (query : Str) (len : ℕ) (want : Want) (c : Cut) : Type 0 where
-  pub within : c.len ≤ c.next
-  pub inside : c.next ≤ length query
-  pub ends : ends_in_dot (drop c.next query) ≡ true
+pub record Cuts (query : Str) (base_len : ℕ) (want : Want) (c : Cut) : Type 0 where
+  pub len : ℕ
+  pub next : ℕ
+  pub within : len ≤ next
+  pub inside : next ≤ length query
+  pub prefix_part : c.prefix.now ≡ take len query
+  pub rest_part : c.rest.now ≡ drop next query
+  pub ends : ends_in_dot c.rest.now ≡ true
   pub prefix_is : Option Str
-  pub asks : Asks (ns_search_term (segments query)) (take c.len query) prefix_is
-  pub rest : segments (drop c.next query) ≡ tail (segments query)
-  pub last_one : length query ≤ c.next → bindings_search_term (segments query) ≡ ns_search_term (segments query)
-  pub more : c.next < length query → bindings_search_term (segments query) ≡ NSTNone
-  pub steps : (path : PathOf) → len ≡ length (base path) → Matching path (segments query) want.matched
+  pub asks : Asks (ns_search_term (segments query)) c.prefix.now prefix_is
+  pub rest : segments c.rest.now ≡ tail (segments query)
+  pub last_one : length c.rest.now ≡ 0 → bindings_search_term (segments query) ≡ ns_search_term (segments query)
+  pub more : 0 < length c.rest.now → bindings_search_term (segments query) ≡ NSTNone
+  pub steps : (path : PathOf) → base_len ≡ length (base path) → Matching path (segments query) want.matched
       → MatchingOn path prefix_is (tail (segments query)) c.want.matched
   pub told : Told want.matched → Told c.want.matched
   pub ask_same : c.want.ask ≡ want.ask
 
 -- Bindings are skipped only where more than one segment is left, or the tally is past the limits.
-pub record Skips (run : Run) (size next : ℕ) (r : Bool) : Type 0 where
-  pub when : r ≡ true → (next < size) ⊎ Past run.limits run.tally.lines run.tally.bytes
-  pub unless : r ≡ false → size ≤ next
+pub record Skips (run : Run) (rest : Str) (r : Bool) : Type 0 where
+  pub when : r ≡ true → (0 < length rest) ⊎ Past run.limits run.tally.lines run.tally.bytes
+  pub unless : r ≡ false → length rest ≡ 0
 
 -- The tally with one more trie entered.
 abbrev pub begun : Tally → Tally

@@ -9,30 +9,30 @@ ghost use Rattle.listing_step.specs.Steps.{Cuts, Skips, PathDown, begun, before_
 use listing_annotation::Labelled;
 use listing_output::{Path, Run, Tally, Want};
 
-// Where a query is cut: the first segment's length, where the rest begins, and what is wanted of what the segment takes.
+// A query that is cut: its first segment, the rest, and what is wanted of what the segment takes.
 #[derive(Clone, Copy)]
-pub struct Cut {
-    pub len: usize,
-    pub next: usize,
+pub struct Cut<'a> {
+    pub prefix: &'a [u8],
+    pub rest: &'a [u8],
     pub want: Want,
 }
 
 // Cuts the first segment off, if there is one.
-pub fn cut_query(query: &[u8], base: usize, want: Want) -> Cut
+pub fn cut_query<'a>(query: &'a [u8], base: usize, want: Want) -> Cut<'a>
     requires { (ends_in_dot query.now ≡ true) × (length query.now ≤ longest_query) × (base ≤ longest_query) }
     ensures { Cuts query.now base want result }
 {
     if query.is_empty() {
         return Cut {
-            len: 0,
-            next: 0,
+            prefix: query,
+            rest: query,
             want,
         };
     }
     let len = text_query::segment_length(query);
     Cut {
-        len,
-        next: len + 1,
+        prefix: &query[..len],
+        rest: &query[len + 1..],
         want: Want {
             ask: want.ask,
             matched: (base + len) as i32,
@@ -41,10 +41,10 @@ pub fn cut_query(query: &[u8], base: usize, want: Want) -> Cut
 }
 
 // Whether a trie's bindings need no listing: more than one segment is left, or lines or bytes are past the limits already.
-pub fn skips_bindings(run: &Run, size: usize, next: usize) -> bool
-    ensures { Skips run.now size next result }
+pub fn skips_bindings(run: &Run, rest: &[u8]) -> bool
+    ensures { Skips run.now rest.now result }
 {
-    next < size || run.limits.lines < run.tally.lines || run.limits.bytes < run.tally.bytes
+    0 < rest.len() || run.limits.lines < run.tally.lines || run.limits.bytes < run.tally.bytes
 }
 
 // Counts the trie at hand as entered.

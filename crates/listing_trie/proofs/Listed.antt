@@ -9,7 +9,7 @@ use Rattle.std.specs.Prelude.{Some, None, slice_get}
 use Rattle.std.proofs.lemmas.Option.{none-some, same_Some}
 use native.Mathlib.Omega.{arith}
 use lib.IntN.{ℤ}
-use lib.ListN.{length, take, drop}
+use lib.ListN.{length}
 use Rattle.source.specs.Text.{Str, starts_with}
 use Rattle.source.specs.Types.{Level, Value, NameList, ns, []ᴺ}
 use Rattle.source.specs.Trees.{PathElem}
@@ -178,74 +178,74 @@ module _ {ws txt : List ℕ} {ask : Ask} {rest : Str} {p : Path} {lim : Limits} 
         along_less = omega (arith, ap length (next_onward g.tree_at prefix at e).0)
 
 -- The run, with notes of the branches after the one at hand.
-module _ (ws txt : List ℕ) (query : Str) (place : Search) (f : Labelled) (run run' : Run) (flat flat' out out' : List ℕ)
+module _ (ws txt : List ℕ) (place : Search) (f : Labelled) (run run' : Run) (flat flat' out out' : List ℕ)
     (notes : Notes) (next : Prelude.Option ℕ) where
   pub record Stepping : Type 0 where
     pub same : SamePath run run'
-    pub along : Along ws txt place.cut.want.ask (drop place.cut.next query) run.path run.limits
+    pub along : Along ws txt place.cut.want.ask place.cut.rest.now run.path run.limits
         place.cut.want.matched
         place.leaf
-        f.link f.label (take place.cut.len query) run.tally run'.tally flat flat' out out' next
+        f.link f.label place.cut.prefix.now run.tally run'.tally flat flat' out out' next
     pub noted : (at : ℕ) → next ≡ Some at
-        → Noted ws txt (take place.cut.len query) notes at (later ws txt (take place.cut.len query) f.link at)
+        → Noted ws txt place.cut.prefix.now notes at (later ws txt place.cut.prefix.now f.link at)
 
 noted_after : (ws txt : List ℕ) (prefix : Str) (root : ℕ) {notes : Notes} {xs : List ℕ} {next : Prelude.Option ℕ}
     → Matched ws txt prefix notes xs next → onward ws txt prefix root next ≡ xs → (at : ℕ) → next ≡ Some at
     → Noted ws txt prefix notes at (later ws txt prefix root at)
 noted_after ws txt prefix root w e at h = w.noted at (later ws txt prefix root at) (sym e ∙ rw h refl)
 
-module _ {ws txt : List ℕ} {query : Str} {place : Search} {f : Labelled} {run : Run} where
+module _ {ws txt : List ℕ} {place : Search} {f : Labelled} {run : Run} where
   pub stepping_first : {flat out : List ℕ} {notes : Notes} {next : Prelude.Option ℕ}
-      → TreeAsked ws txt query place run f
-      → Matched ws txt (take place.cut.len query) notes (matches ws txt f.link (take place.cut.len query)) next
-      → Stepping ws txt query place f run run flat flat out out notes next
+      → TreeAsked ws txt place run f
+      → Matched ws txt place.cut.prefix.now notes (matches ws txt f.link place.cut.prefix.now) next
+      → Stepping ws txt place f run run flat flat out out notes next
   stepping_first r w = record {
     same = same_run run;
     along = along_first r.can w.head;
-    noted = noted_after ws txt (take place.cut.len query) f.link w (first_onward r.can.tree_at (take place.cut.len query) w.head).0;
+    noted = noted_after ws txt place.cut.prefix.now f.link w (first_onward r.can.tree_at place.cut.prefix.now w.head).0;
   }
 
   pub stepping_done : {run' : Run} {flat flat' out out' : List ℕ} {notes : Notes}
-      → Stepping ws txt query place f run run' flat flat' out out' notes None
-      → TreeListed ws txt query place run run' flat flat' out out' f
+      → Stepping ws txt place f run run' flat flat' out out' notes None
+      → TreeListed ws txt place run run' flat flat' out out' f
   stepping_done g = record { same = g.same; runs = along_done g.along }
 
   module _ {run' : Run} {flat flat' out out' : List ℕ} {notes : Notes} {at : ℕ}
-      (g : Stepping ws txt query place f run run' flat flat' out out' notes (Some at)) where
+      (g : Stepping ws txt place f run run' flat flat' out out' notes (Some at)) where
     abbrev pub at_hand : Labelled
     at_hand = record { link = at; label = f.label }
 
-    pub stepping_branch : TreeAsked ws txt query place run f
-        → BranchAsked ws txt (drop place.cut.next query) place.cut.want place.leaf run' at_hand
-    stepping_branch r = record { can = branch_ready_at g.same (along_branch g.along r.can); told = r.place_ok.told }
+    pub stepping_branch : TreeAsked ws txt place run f
+        → BranchAsked ws txt place.cut.rest.now place.cut.want place.leaf run' at_hand
+    stepping_branch r = record { can = branch_ready_at g.same (along_branch g.along r.can); told = r.told }
 
-    pub stepping_noted : Noted ws txt (take place.cut.len query) notes at
-        (later ws txt (take place.cut.len query) f.link at)
+    pub stepping_noted : Noted ws txt place.cut.prefix.now notes at
+        (later ws txt place.cut.prefix.now f.link at)
     stepping_noted = g.noted at refl
 
     module _ {run'' : Run} {flat'' out'' : List ℕ} {e : ℕ}
-        (b : BranchListed ws txt (drop place.cut.next query) place.cut.want
+        (b : BranchListed ws txt place.cut.rest.now place.cut.want
         place.leaf run' run'' flat' flat'' out' out'' at_hand e)
         (lf : length flat'' ≡ length flat') (lo : length out'' ≡ length out') where
       pub stepping_spent : run.limits.budget < e
-          → TreeListed ws txt query place run run'' flat flat'' out out'' f
+          → TreeListed ws txt place run run'' flat flat'' out out'' f
       stepping_spent k = record {
         same = path_then g.same b.same;
         runs = along_spent g.along (branch_runs_at g.same b.runs) lf lo (omega (arith, b.count));
       }
 
       module _ {notes' : Notes} {next : Prelude.Option ℕ}
-          (w : Matched ws txt (take place.cut.len query) notes'
-          (later ws txt (take place.cut.len query) f.link at) next) where
-        pub stepping_next : Stepping ws txt query place f run run'' flat flat'' out out'' notes' next
+          (w : Matched ws txt place.cut.prefix.now notes'
+          (later ws txt place.cut.prefix.now f.link at) next) where
+        pub stepping_next : Stepping ws txt place f run run'' flat flat'' out out'' notes' next
         stepping_next = record {
           same = path_then g.same b.same;
           along = along_next g.along (branch_runs_at g.same b.runs) lf lo w.head;
-          noted = noted_after ws txt (take place.cut.len query) f.link w (next_onward g.along.tree_at (take place.cut.len query) at w.head).0;
+          noted = noted_after ws txt place.cut.prefix.now f.link w (next_onward g.along.tree_at place.cut.prefix.now at w.head).0;
         }
 
-        pub stepping_less : length (onward ws txt (take place.cut.len query) f.link next)
-            < length (onward ws txt (take place.cut.len query) f.link (Some at))
+        pub stepping_less : length (onward ws txt place.cut.prefix.now f.link next)
+            < length (onward ws txt place.cut.prefix.now f.link (Some at))
         stepping_less = along_less g.along (branch_runs_at g.same b.runs) lf lo w.head
 
 -- ---- A list
@@ -310,8 +310,8 @@ found_empty nl e NSTNone = refl
 found_empty nl e (NSTPrefix []) = rw e
 found_empty nl e (NSTPrefix (b ∷ id)) = rw e
 
-pub none_runs : {ws txt : List ℕ} {query : Str} {place : Search} {run : Run} {flat out : List ℕ} {x : ℕ} → x ≡ 0
-    → ListListed ws txt query place run run flat flat out out x
+pub none_runs : {ws txt : List ℕ} {place : Search} {run : Run} {flat out : List ℕ} {x : ℕ} → x ≡ 0
+    → ListListed ws txt place run run flat flat out out x
 unfolding elements_give
 none_runs {ws} {txt} {place = place} {run = run} {flat} {out} {x} e = record {
   same = same_run run;
@@ -323,60 +323,60 @@ none_runs {ws} {txt} {place = place} {run = run} {flat} {out} {x} e = record {
 
 -- ---- One tree
 
-module _ {ws txt : List ℕ} {query : Str} {place : Search} {run : Run} {x root label : ℕ}
-    (r : ListAsked ws txt query place run x)
+module _ {ws txt : List ℕ} {place : Search} {run : Run} {x root label : ℕ}
+    (r : ListAsked ws txt place run x)
     (o : OneTree ws txt (asked place.cut.want.ask) (level_of place.leaf) x
-    (take place.cut.len query) root label) where
+    place.cut.prefix.now root label) where
   abbrev pub alone : Labelled
   alone = record { link = root; label = label }
 
   pub one_earlier : root ≤ x
   one_earlier = omega (arith, o.root_link.earlier)
 
-  one_says : (term : SearchTerm) (q : Option Str) → Asks term (take place.cut.len query) q
+  one_says : (term : SearchTerm) (q : Option Str) → Asks term place.cut.prefix.now q
       → map outer (found (what (asked place.cut.want.ask) ws txt x (list (level_of place.leaf))) term)
       ≡ map (shown (asked place.cut.want.ask) ws txt (level_of place.leaf) q)
-      (tree_entries ws txt root label (take place.cut.len query))
+      (tree_entries ws txt root label place.cut.prefix.now)
   unfolding tree_entries
   one_says term q asks = o.says term q asks
 
-  pub one_ready : TreeAsked ws txt query place run alone
+  pub one_ready : TreeAsked ws txt place run alone
   one_ready = record {
-    place_ok = r.place_ok;
+    told = r.told;
     can = record {
       ready = r.can.ready;
       tree_at = at_of r.can.list_at (tree _) (omega arith) o.root_link;
       label_at = label_here r.can.list_at o.label_ok;
-      room = list_room r.can (take place.cut.len query) (tree_entries ws txt root label (take place.cut.len query)) one_says;
+      room = list_room r.can place.cut.prefix.now (tree_entries ws txt root label place.cut.prefix.now) one_says;
     };
   }
 
   pub one_runs : {run' : Run} {flat flat' out out' : List ℕ}
-      → TreeListed ws txt query place run run' flat flat' out out' alone
-      → ListListed ws txt query place run run' flat flat' out out' x
+      → TreeListed ws txt place run run' flat flat' out out' alone
+      → ListListed ws txt place run run' flat flat' out out' x
   one_runs t = record { same = t.same; runs = entries_list one_says t.runs }
 
 -- ---- A merge
 
-module _ (ws txt : List ℕ) (query : Str) (place : Search) (x : ℕ) (run run' : Run) (flat flat' out out' : List ℕ)
+module _ (ws txt : List ℕ) (place : Search) (x : ℕ) (run run' : Run) (flat flat' out out' : List ℕ)
     (m : State) where
   -- The run over a list has come to what the state m gives.
   pub record Merging : Type 0 where
     pub same : SamePath run run'
     pub all : List Entry
-    pub says : (term : SearchTerm) (o : Option Str) → Asks term (take place.cut.len query) o
+    pub says : (term : SearchTerm) (o : Option Str) → Asks term place.cut.prefix.now o
         → map outer (found (what (asked place.cut.want.ask) ws txt x (list (level_of place.leaf))) term)
         ≡ map (shown (asked place.cut.want.ask) ws txt (level_of place.leaf) o) all
     pub entries : List Entry
-    pub gives : M.Rest ws txt (asked place.cut.want.ask) (level_of place.leaf) x (take place.cut.len query) m entries
-    pub left : Left ws txt place.cut.want.ask (drop place.cut.next query) run.path run.limits
+    pub gives : M.Rest ws txt (asked place.cut.want.ask) (level_of place.leaf) x place.cut.prefix.now m entries
+    pub left : Left ws txt place.cut.want.ask place.cut.rest.now run.path run.limits
         place.cut.want.matched
         place.leaf
         run.tally run'.tally flat flat' out out' all entries
 
-module _ {ws txt : List ℕ} {query : Str} {place : Search} {x : ℕ} {run : Run} where
-  pub merging_first : {flat out : List ℕ} {m : State} → ListAsked ws txt query place run x
-      → Starts ws txt x (take place.cut.len query) m → Merging ws txt query place x run run flat flat out out m
+module _ {ws txt : List ℕ} {place : Search} {x : ℕ} {run : Run} where
+  pub merging_first : {flat out : List ℕ} {m : State} → ListAsked ws txt place run x
+      → Starts ws txt x place.cut.prefix.now m → Merging ws txt place x run run flat flat out out m
   merging_first r s =
       let k = s (asked place.cut.want.ask) (level_of place.leaf) r.can.list_at in
       record {
@@ -385,38 +385,38 @@ module _ {ws txt : List ℕ} {query : Str} {place : Search} {x : ℕ} {run : Run
         says = k.says;
         entries = k.entries;
         gives = k.rest;
-        left = left_all ws txt place.cut.want.ask (drop place.cut.next query) run.path run.limits
+        left = left_all ws txt place.cut.want.ask place.cut.rest.now run.path run.limits
             place.cut.want.matched
             place.leaf
-            (list_room r.can (take place.cut.len query) k.entries k.says);
+            (list_room r.can place.cut.prefix.now k.entries k.says);
       }
 
   module _ {run' : Run} {flat flat' out out' : List ℕ} {m : State}
-      (g : Merging ws txt query place x run run' flat flat' out out' m) where
-    pub merging_any : AnyRest ws txt (take place.cut.len query) m
+      (g : Merging ws txt place x run run' flat flat' out out' m) where
+    pub merging_any : AnyRest ws txt place.cut.prefix.now m
     merging_any = rest_any g.gives
 
-    pub merging_done : {m' : State} → Gives ws txt (take place.cut.len query) m None m'
-        → ListListed ws txt query place run run' flat flat' out out' x
+    pub merging_done : {m' : State} → Gives ws txt place.cut.prefix.now m None m'
+        → ListListed ws txt place run run' flat flat' out out' x
     merging_done f = record { same = g.same; runs = entries_list g.says (left_none ws txt _ _ _ _ _ _ (rw (gives_end g.gives f) at g.left)) }
 
-    module _ {s : Given} {m' : State} (f : Gives ws txt (take place.cut.len query) m (Some s) m') where
+    module _ {s : Given} {m' : State} (f : Gives ws txt place.cut.prefix.now m (Some s) m') where
       abbrev pub given : Labelled
       given = record { link = s.branch; label = s.label }
 
       pub merging_earlier : s.branch ≤ x
       merging_earlier = omega (arith, (gives_more g.gives f).given.branch.link.earlier)
 
-      pub merging_less : left_in ws txt (take place.cut.len query) m' < left_in ws txt (take place.cut.len query) m
+      pub merging_less : left_in ws txt place.cut.prefix.now m' < left_in ws txt place.cut.prefix.now m
       merging_less = (gives_more g.gives f).given.fewer
 
-      pub merging_branch : ListAsked ws txt query place run x
-          → BranchAsked ws txt (drop place.cut.next query) place.cut.want place.leaf run' given
+      pub merging_branch : ListAsked ws txt place run x
+          → BranchAsked ws txt place.cut.rest.now place.cut.want place.leaf run' given
       merging_branch r =
           let k = gives_more g.gives f in
           let t = r.can.list_at in
           record {
-            told = r.place_ok.told;
+            told = r.told;
             can = branch_ready_at g.same (record {
               ready = r.can.ready;
               branch_at = record {
@@ -432,10 +432,10 @@ module _ {ws txt : List ℕ} {query : Str} {place : Search} {x : ℕ} {run : Run
           }
 
       module _ {run'' : Run} {flat'' out'' : List ℕ} {e : ℕ}
-          (b : BranchListed ws txt (drop place.cut.next query) place.cut.want
+          (b : BranchListed ws txt place.cut.rest.now place.cut.want
           place.leaf run' run'' flat' flat'' out' out'' given e)
           (lf : length flat'' ≡ length flat') (lo : length out'' ≡ length out') where
-        pub merging_next : Merging ws txt query place x run run'' flat flat'' out out'' m'
+        pub merging_next : Merging ws txt place x run run'' flat flat'' out out'' m'
         merging_next =
             let k = gives_more g.gives f in
             record {
@@ -449,7 +449,7 @@ module _ {ws txt : List ℕ} {query : Str} {place : Search} {x : ℕ} {run : Run
             }
 
         pub merging_spent : run.limits.budget < e
-            → ListListed ws txt query place run run'' flat flat'' out out'' x
+            → ListListed ws txt place run run'' flat flat'' out out'' x
         merging_spent z =
             record {
               same = merging_next.same;

@@ -8,7 +8,7 @@ use native.Mathlib.Omega.{arith}
 use lib.Dec.{ltb}
 use lib.IntN.{ℤ}
 use borrow.Author.Tests.{ltb-true, ltb-false}
-use lib.ListN.{length, take, drop, length-drop}
+use lib.ListN.{length, length-drop}
 use Rattle.source.specs.Text.{Str, segments, ends_in_dot}
 use Rattle.source.specs.Types.{Level, Value, NameList, trie, ns, namespaces}
 use Rattle.source.specs.Terms.{depth, depth_names}
@@ -35,7 +35,7 @@ use Rattle.listing_line.proofs.Run.{path_then, same_tally, counting}
 use Rattle.listing_output.proofs.Written.{written_none}
 use Rattle.listing_line.proofs.Goes.{goes_none, goes_then, goes_past}
 use Rattle.listing_step.specs.Steps.{Matching, Cuts, begun}
-use Rattle.listing_trie.specs.Runs.{trie_gives, elements_give, RunReady, ListReady, ListRuns, TrieReady, TrieRuns, PlaceOk, ListAsked, ListListed}
+use Rattle.listing_trie.specs.Runs.{trie_gives, elements_give, RunReady, ListReady, ListRuns, TrieReady, TrieRuns, ListAsked, ListListed}
 use Rattle.listing_trie.specs.Runs.{TrieAsked, TrieListed}
 use Rattle.listing_trie.specs.declared.Search.{Search}
 use Rattle.listing_step.specs.declared.Cut.{Cut}
@@ -116,16 +116,16 @@ module _ {ws txt : List ℕ} {ask : Ask} {query : Str} {p : Path} {lim : Limits}
     pub namespaces_earlier : tr₂.namespaces ≤ trie_link
     namespaces_earlier = omega (arith, (lists_seen r.trie_at seen).namespaces.earlier)
 
-    rest_ready : RunReady ws txt ask (drop c.next query) p lim
+    rest_ready : RunReady ws txt ask c.rest.now p lim
     rest_ready =
         record {
           path_ok = r.ready.path_ok;
           ends = cut.ends;
-          short = omega (arith, length-drop c.next query, r.ready.short);
+          short = omega (arith, ap length cut.rest_part, length-drop cut.next query, r.ready.short);
           small = r.ready.small;
         }
 
-    pub trie_bindings_ready : ListReady ws txt ask (drop c.next query) p lim true tr₂.bindings
+    pub trie_bindings_ready : ListReady ws txt ask c.rest.now p lim true tr₂.bindings
     trie_bindings_ready = record { ready = rest_ready; list_at = bindings_at r.trie_at seen; room = λ z. absurd (true≢false z) }
 
     deep : depth (what (asked ask) ws txt trie_link trieˢ)
@@ -137,16 +137,16 @@ module _ {ws txt : List ℕ} {ask : Ask} {query : Str} {p : Path} {lim : Limits}
             → depth tr ≡ depth_names (what (asked ask) ws txt tr₂.namespaces (list ns))
         go (trie b n) e = rw e
 
-    pub trie_namespaces_ready : ListReady ws txt ask (drop c.next query) p lim false tr₂.namespaces
+    pub trie_namespaces_ready : ListReady ws txt ask c.rest.now p lim false tr₂.namespaces
     trie_namespaces_ready = record { ready = rest_ready; list_at = namespaces_at r.trie_at seen; room = λ z. omega (arith, r.room, deep) }
 
     -- Both lists, or where more segments are left only the namespaces.
     module _ {a : Tally} (h : a.entered < lim.budget) where
-      pub trie_both : {m e : Tally} {flat flat₁ flat₂ out out₁ out₂ : List ℕ} → length query ≤ c.next
-          → ListRuns ws txt ask (drop c.next query) p lim c.want.matched (begun a) m flat flat₁ out out₁ true
-          tr₂.bindings (take c.len query)
-          → ListRuns ws txt ask (drop c.next query) p lim c.want.matched m e flat₁ flat₂ out₁ out₂ false
-          tr₂.namespaces (take c.len query)
+      pub trie_both : {m e : Tally} {flat flat₁ flat₂ out out₁ out₂ : List ℕ} → length c.rest.now ≡ 0
+          → ListRuns ws txt ask c.rest.now p lim c.want.matched (begun a) m flat flat₁ out out₁ true
+          tr₂.bindings c.prefix.now
+          → ListRuns ws txt ask c.rest.now p lim c.want.matched m e flat₁ flat₂ out₁ out₂ false
+          tr₂.namespaces c.prefix.now
           → TrieRuns ws txt ask query p lim matched a e flat flat₂ out out₂ trie_link
       trie_both {m} {e} {flat} {flat₁} {flat₂} {out} {out₁} {out₂} last b n = record { goes = λ path k on mt d. go path k on mt d }
         where
@@ -169,9 +169,9 @@ module _ {ws txt : List ℕ} {ask : Ask} {query : Str} {p : Path} {lim : Limits}
               (b.goes path _ cut.prefix_is k on (rw cut.rest st) cut.asks (λ z. absurd (true≢false z)))
               (n.goes path _ cut.prefix_is k on (rw cut.rest st) cut.asks (λ z. omega (arith, deep)))))
 
-      pub trie_spaces : {e : Tally} {flat flat₂ out out₂ : List ℕ} → c.next < length query
-          → ListRuns ws txt ask (drop c.next query) p lim c.want.matched (begun a) e flat flat₂ out out₂ false
-          tr₂.namespaces (take c.len query)
+      pub trie_spaces : {e : Tally} {flat flat₂ out out₂ : List ℕ} → 0 < length c.rest.now
+          → ListRuns ws txt ask c.rest.now p lim c.want.matched (begun a) e flat flat₂ out out₂ false
+          tr₂.namespaces c.prefix.now
           → TrieRuns ws txt ask query p lim matched a e flat flat₂ out out₂ trie_link
       unfolding elements_give
       trie_spaces {e} {flat} {flat₂} {out} {out₂} more n = record { goes = λ path k on mt d. go path k on mt d }
@@ -197,8 +197,8 @@ module _ {ws txt : List ℕ} {ask : Ask} {query : Str} {p : Path} {lim : Limits}
 
       -- Where lines or bytes are past the limits the bindings need no counting.
       pub trie_past : {e : Tally} {flat flat₂ out out₂ : List ℕ} → Past lim a.lines a.bytes
-          → ListRuns ws txt ask (drop c.next query) p lim c.want.matched (begun a) e flat flat₂ out out₂ false
-          tr₂.namespaces (take c.len query)
+          → ListRuns ws txt ask c.rest.now p lim c.want.matched (begun a) e flat flat₂ out out₂ false
+          tr₂.namespaces c.prefix.now
           → TrieRuns ws txt ask query p lim matched a e flat flat₂ out out₂ trie_link
       trie_past {e} {flat} {flat₂} {out} {out₂} past n = record { goes = λ path k on mt d. go path k on mt d }
         where
@@ -243,22 +243,19 @@ module _ {ws txt : List ℕ} {query : Str} {want : Want} {run : Run} {x : ℕ}
     same₁ : SamePath run run₁
     same₁ = same_tally run _
 
-    place_ok : (leaf : Bool) → PlaceOk query (down leaf)
-    place_ok leaf = record { len_inside = omega (arith, cut.within, cut.inside); next_inside = cut.inside; told = cut.told r.told }
-
-    pub bindings_asked : ListAsked ws txt query (down true) run₁ tr.bindings
-    bindings_asked = record { place_ok = place_ok true; can = list_ready_at same₁ (rw cut.ask_same (trie_bindings_ready r.can seen cut)) }
+    pub bindings_asked : ListAsked ws txt (down true) run₁ tr.bindings
+    bindings_asked = record { told = cut.told r.told; can = list_ready_at same₁ (rw cut.ask_same (trie_bindings_ready r.can seen cut)) }
 
     pub namespaces_asked : {run₂ : Run} → SamePath run₁ run₂
-        → ListAsked ws txt query (down false) run₂ tr.namespaces
+        → ListAsked ws txt (down false) run₂ tr.namespaces
     namespaces_asked s = record {
-      place_ok = place_ok false;
+      told = cut.told r.told;
       can = list_ready_at (path_then same₁ s) (rw cut.ask_same (trie_namespaces_ready r.can seen cut));
     }
 
     module _ {run₂ : Run} {flat flat₁ out out₁ : List ℕ} where
-      pub trie_few : (c.next < length query) ⊎ Past run.limits run.tally.lines run.tally.bytes
-          → ListListed ws txt query (down false) run₁ run₂ flat flat₁ out out₁ tr.namespaces
+      pub trie_few : (0 < length c.rest.now) ⊎ Past run.limits run.tally.lines run.tally.bytes
+          → ListListed ws txt (down false) run₁ run₂ flat flat₁ out out₁ tr.namespaces
           → TrieListed ws txt query want run run₂ flat flat₁ out out₁ x run₂.tally.entered
       trie_few skip n =
           record {
@@ -267,17 +264,17 @@ module _ {ws txt : List ℕ} {query : Str} {want : Want} {run : Run} {x : ℕ}
             runs = go skip (rw cut.ask_same at (list_runs_at same₁ n.runs));
           }
         where
-          go : (c.next < length query) ⊎ Past run.limits run.tally.lines run.tally.bytes
-              → ListRuns ws txt want.ask (drop c.next query) run.path run.limits c.want.matched
-              (begun run.tally) run₂.tally flat flat₁ out out₁ false tr.namespaces (take c.len query)
+          go : (0 < length c.rest.now) ⊎ Past run.limits run.tally.lines run.tally.bytes
+              → ListRuns ws txt want.ask c.rest.now run.path run.limits c.want.matched
+              (begun run.tally) run₂.tally flat flat₁ out out₁ false tr.namespaces c.prefix.now
               → TrieRuns ws txt want.ask query run.path run.limits want.matched run.tally
               run₂.tally flat flat₁ out out₁ x
           go (inl more) m = trie_spaces r.can seen cut h more m
           go (inr past) m = trie_past r.can seen cut h past m
 
-      pub trie_all : {run₃ : Run} {flat₂ out₂ : List ℕ} → length query ≤ c.next
-          → ListListed ws txt query (down true) run₁ run₂ flat flat₁ out out₁ tr.bindings
-          → ListListed ws txt query (down false) run₂ run₃ flat₁ flat₂ out₁ out₂ tr.namespaces
+      pub trie_all : {run₃ : Run} {flat₂ out₂ : List ℕ} → length c.rest.now ≡ 0
+          → ListListed ws txt (down true) run₁ run₂ flat flat₁ out out₁ tr.bindings
+          → ListListed ws txt (down false) run₂ run₃ flat₁ flat₂ out₁ out₂ tr.namespaces
           → TrieListed ws txt query want run run₃ flat flat₂ out out₂ x run₃.tally.entered
       trie_all last b n = record {
         count = refl;

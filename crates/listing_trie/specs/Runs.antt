@@ -1,5 +1,5 @@
 -- What the parts of a listing give, and what each function of the run requires and leaves.
-use Rattle.std.specs.Prelude.{ℕ, ◌+◌, ◌<◌, ◌≤◌, ◌≡◌, Bool, true, false, List, [], ◌∷◌, map, ℤ, length, take, drop}
+use Rattle.std.specs.Prelude.{ℕ, ◌+◌, ◌<◌, ◌≤◌, ◌≡◌, Bool, true, false, List, [], ◌∷◌, map, ℤ, length}
 use Rattle.std.proofs.Math.Option.{Option}
 use Rattle.source.specs.Limits.{longest_query, deepest_trie}
 use Rattle.source.specs.Text.{Str, Query, segments, ends_in_dot}
@@ -146,36 +146,30 @@ module _ (ws txt : List ℕ) (rest : Str) (want : Want) (leaf : Bool) (run : Run
     pub runs : BranchRuns ws txt want.ask rest run.path run.limits want.matched
         run.tally run'.tally flat flat' out out' leaf f.link f.label
 
--- The query is cut within, and the match length is one.
-pub record PlaceOk (query : Str) (place : Search) : Type 0 where
-  pub len_inside : place.cut.len ≤ length query
-  pub next_inside : place.cut.next ≤ length query
-  pub told : Told place.cut.want.matched
-
-module _ (ws txt : List ℕ) (query : Str) (place : Search) (run : Run) where
+module _ (ws txt : List ℕ) (place : Search) (run : Run) where
   pub record TreeAsked (f : Labelled) : Type 0 where
-    pub place_ok : PlaceOk query place
-    pub can : TreeReady ws txt place.cut.want.ask (drop place.cut.next query) run.path run.limits place.leaf
-        f.link f.label (take place.cut.len query)
+    pub told : Told place.cut.want.matched
+    pub can : TreeReady ws txt place.cut.want.ask place.cut.rest.now run.path run.limits place.leaf
+        f.link f.label place.cut.prefix.now
 
   pub record ListAsked (x : ℕ) : Type 0 where
-    pub place_ok : PlaceOk query place
-    pub can : ListReady ws txt place.cut.want.ask (drop place.cut.next query) run.path run.limits
+    pub told : Told place.cut.want.matched
+    pub can : ListReady ws txt place.cut.want.ask place.cut.rest.now run.path run.limits
         place.leaf x
 
   module _ (run' : Run) (flat flat' out out' : List ℕ) where
     pub record TreeListed (f : Labelled) : Type 0 where
       pub same : SamePath run run'
-      pub runs : EntriesRun ws txt place.cut.want.ask (drop place.cut.next query) run.path run.limits
+      pub runs : EntriesRun ws txt place.cut.want.ask place.cut.rest.now run.path run.limits
           place.cut.want.matched
           run.tally run'.tally flat flat' out out' place.leaf
-          (tree_entries ws txt f.link f.label (take place.cut.len query))
+          (tree_entries ws txt f.link f.label place.cut.prefix.now)
 
     pub record ListListed (x : ℕ) : Type 0 where
       pub same : SamePath run run'
-      pub runs : ListRuns ws txt place.cut.want.ask (drop place.cut.next query) run.path run.limits
+      pub runs : ListRuns ws txt place.cut.want.ask place.cut.rest.now run.path run.limits
           place.cut.want.matched
-          run.tally run'.tally flat flat' out out' place.leaf x (take place.cut.len query)
+          run.tally run'.tally flat flat' out out' place.leaf x place.cut.prefix.now
 
 module _ (ws txt : List ℕ) (query : Str) (want : Want) (run : Run) where
   pub record TrieAsked (x : ℕ) : Type 0 where

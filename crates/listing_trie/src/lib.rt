@@ -12,10 +12,10 @@ use listing_step::Cut;
 use match_marks::Notes;
 use merge::Merge;
 
-// Where a run stands in a trie: where the query is cut, and whether the list is of bindings.
+// Where a run stands in a trie: the query that is cut, and whether the list is of bindings.
 #[derive(Clone, Copy)]
-struct Search {
-    cut: Cut,
+struct Search<'a> {
+    cut: Cut<'a>,
     leaf: bool,
 }
 
@@ -24,20 +24,19 @@ struct Search {
 fn list_below(
     words: &[u32],
     text: &[u8],
-    rest: &[u8],
-    want: Want,
+    cut: Cut,
     found: Labelled,
     run: &mut Run,
     flat: &mut [u8],
     out: &mut [u8],
 ) -> usize
-    requires { BranchAsked words.now text.now rest.now want false run.old found }
-    ensures { BranchListed words.now text.now rest.now want false
+    requires { BranchAsked words.now text.now cut.rest.now cut.want false run.old found }
+    ensures { BranchListed words.now text.now cut.entry.rest.now cut.entry.want false
         run.old run.new flat.old flat.new out.old out.new found result }
 {
     let child = memory_access::held_of(words, found.link);
     let before = listing_step::enter(words, found, &mut run.path);
-    let entered = list_trie(words, text, rest, want, child, run, flat, out);
+    let entered = list_trie(words, text, cut.rest, cut.want, child, run, flat, out);
     listing_step::leave(&mut run.path, before);
     entered
 }
@@ -47,23 +46,21 @@ fn list_below(
 fn list_branch(
     words: &[u32],
     text: &[u8],
-    rest: &[u8],
     place: Search,
     found: Labelled,
     run: &mut Run,
     flat: &mut [u8],
     out: &mut [u8],
 ) -> usize
-    requires { BranchAsked words.now text.now rest.now place.cut.want place.leaf run.old found }
-    ensures { BranchListed words.now text.now rest.now place.cut.want place.leaf
+    requires { BranchAsked words.now text.now place.cut.rest.now place.cut.want place.leaf run.old found }
+    ensures { BranchListed words.now text.now place.entry.cut.rest.now place.entry.cut.want place.entry.leaf
         run.old run.new flat.old flat.new out.old out.new found result }
 {
-    let want = place.cut.want;
     if place.leaf {
-        listing_line::line(words, text, found, run, want, flat, out);
+        listing_line::line(words, text, found, run, place.cut.want, flat, out);
         return run.tally.entered;
     }
-    list_below(words, text, rest, want, found, run, flat, out)
+    list_below(words, text, place.cut, found, run, flat, out)
 }
 
 // What the branches of a tree that begin with a prefix give, in order, each with the tree's label. Stops once the budget is passed.
@@ -71,33 +68,31 @@ fn list_branch(
 fn list_tree(
     words: &[u32],
     text: &[u8],
-    query: &[u8],
     place: Search,
     found: Labelled,
     run: &mut Run,
     flat: &mut [u8],
     out: &mut [u8],
 )
-    requires { TreeAsked words.now text.now query.now place run.old found }
-    ensures { TreeListed words.now text.now query.now place run.old run.new
+    requires { TreeAsked words.now text.now place run.old found }
+    ensures { TreeListed words.now text.now place.entry run.old run.new
         flat.old flat.new out.old out.new found }
 {
     let budget = run.limits.budget;
-    let len = place.cut.len;
-    let rest = place.cut.next;
+    let prefix = place.cut.prefix;
     let root = found.link;
     let mut notes = Notes::new();
-    let mut next = match_walk::first_match(words, text, root, &query[0..len], &mut notes);
+    let mut next = match_walk::first_match(words, text, root, prefix, &mut notes);
     while let Some(at) = next {
         let here = Labelled {
             link: at,
             label: found.label,
         };
-        let entered = list_branch(words, text, &query[rest..], place, here, run, flat, out);
+        let entered = list_branch(words, text, place, here, run, flat, out);
         if budget < entered {
             return;
         }
-        next = match_walk::next_match(words, text, root, &query[0..len], at, &mut notes);
+        next = match_walk::next_match(words, text, root, prefix, at, &mut notes);
     }
 }
 
@@ -107,35 +102,33 @@ fn list_tree(
 fn list_merged(
     words: &[u32],
     text: &[u8],
-    query: &[u8],
     place: Search,
     list: u32,
     run: &mut Run,
     flat: &mut [u8],
     out: &mut [u8],
 )
-    requires { ListAsked words.now text.now query.now place run.old list }
-    ensures { ListListed words.now text.now query.now place run.old run.new
+    requires { ListAsked words.now text.now place run.old list }
+    ensures { ListListed words.now text.now place.entry run.old run.new
         flat.old flat.new out.old out.new list }
 {
     let budget = run.limits.budget;
-    let len = place.cut.len;
-    let rest = place.cut.next;
-    let mut merge = Merge::new(words, text, &query[0..len], list);
+    let prefix = place.cut.prefix;
+    let mut merge = Merge::new(words, text, prefix, list);
     if merge.n == 1 {
         let alone = Labelled {
             link: merge.cells[0].root,
             label: merge.cells[0].label,
         };
-        list_tree(words, text, query, place, alone, run, flat, out);
+        list_tree(words, text, place, alone, run, flat, out);
         return;
     }
-    while let Some(given) = merge.next(words, text, &query[0..len]) {
+    while let Some(given) = merge.next(words, text, prefix) {
         let here = Labelled {
             link: given.branch,
             label: given.label,
         };
-        let entered = list_branch(words, text, &query[rest..], place, here, run, flat, out);
+        let entered = list_branch(words, text, place, here, run, flat, out);
         if budget < entered {
             return;
         }
@@ -147,15 +140,14 @@ fn list_merged(
 fn list_names(
     words: &[u32],
     text: &[u8],
-    query: &[u8],
     place: Search,
     list: u32,
     run: &mut Run,
     flat: &mut [u8],
     out: &mut [u8],
 )
-    requires { ListAsked words.now text.now query.now place run.old list }
-    ensures { ListListed words.now text.now query.now place run.old run.new
+    requires { ListAsked words.now text.now place run.old list }
+    ensures { ListListed words.now text.now place.entry run.old run.new
         flat.old flat.new out.old out.new list }
 {
     if list == 0 {
@@ -166,10 +158,10 @@ fn list_names(
             link: root,
             label: 0,
         };
-        list_tree(words, text, query, place, tree, run, flat, out);
+        list_tree(words, text, place, tree, run, flat, out);
         return;
     }
-    list_merged(words, text, query, place, list, run, flat, out);
+    list_merged(words, text, place, list, run, flat, out);
 }
 
 // The source's trie_find_prefix': the trie is entered, then its bindings, where at most one segment is left, and its namespaces.
@@ -196,15 +188,15 @@ pub fn list_trie(
     }
     let t = memory_access::trie_of(words, trie);
     let cut = listing_step::cut_query(query, run.path.len, want);
-    let skip = listing_step::skips_bindings(run, query.len(), cut.next);
+    let skip = listing_step::skips_bindings(run, cut.rest);
     listing_step::begin(&mut run.tally);
     let namespaces = Search { cut, leaf: false };
     if skip {
-        list_names(words, text, query, namespaces, t.namespaces, run, flat, out);
+        list_names(words, text, namespaces, t.namespaces, run, flat, out);
         return run.tally.entered;
     }
     let bindings = Search { cut, leaf: true };
-    list_names(words, text, query, bindings, t.bindings, run, flat, out);
-    list_names(words, text, query, namespaces, t.namespaces, run, flat, out);
+    list_names(words, text, bindings, t.bindings, run, flat, out);
+    list_names(words, text, namespaces, t.namespaces, run, flat, out);
     run.tally.entered
 }

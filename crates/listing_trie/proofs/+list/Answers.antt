@@ -1,10 +1,8 @@
 use Rattle.std.proofs.Common.{arith, rules, refl}
-use Rattle.text.proofs.Texts.{tail_is}
 use Rattle.find_tree.proofs.Branches.{any_tree}
 use Rattle.memory.proofs.At.{at_fits}
 use Rattle.merge.proofs.OneTree.{single_one}
 use Rattle.listing_line.proofs.Run.{same_run}
-use Rattle.listing_step.proofs.Cuts.{front_is}
 use Rattle.listing_trie.proofs.Branch.{leaf_runs, line_ready, branch_named, space_at, below_ready, child_earlier, namespace_ready}
 use Rattle.listing_trie.proofs.Branch.{namespace_runs}
 use Rattle.listing_trie.proofs.Listed.{none_runs, along_earlier, along_tree, along_begins, stepping_first, stepping_branch, stepping_noted, stepping_next}
@@ -54,16 +52,16 @@ list_branch-returns t c = rw c.if-place.false c.list_below.ensures
 -- ---- list_tree
 
 pub list_tree-loop-next-init : goal.list_tree-loop-next-init
-list_tree-loop-next-init t c = stepping_first c.requires (rw front_is at c.first_match-next.ensures)
+list_tree-loop-next-init t c = stepping_first c.requires c.first_match-next.ensures
 
 pub list_tree-list_branch-entered-requires : goal.list_tree-list_branch-entered-requires
 list_tree-list_branch-entered-requires t c =
     let inv = rw c.in-Some.is at c.loop-next.invariant in
-    (omega (arith, along_earlier inv.along), rw tail_is (stepping_branch inv c.requires))
+    (omega (arith, along_earlier inv.along), (stepping_branch inv c.requires))
 
 pub list_tree-returns-then-budget-entered : goal.list_tree-returns-then-budget-entered
 list_tree-returns-then-budget-entered t c =
-    stepping_spent (rw c.in-Some.is at c.loop-next.invariant) (rw tail_is at c.list_branch-entered.ensures)
+    stepping_spent (rw c.in-Some.is at c.loop-next.invariant) c.list_branch-entered.ensures
     (search rules) (search rules) c.if-budget-entered.true
 
 pub list_tree-next_match-next-requires : goal.list_tree-next_match-next-requires
@@ -72,19 +70,19 @@ list_tree-next_match-next-requires t c =
     record {
       any_tree = any_tree c.requires.can.tree_at;
       at_nonzero = along_tree inv.along;
-      prefix_value = rw front_is (along_begins inv.along);
-      noted = rw front_is (stepping_noted inv);
+      prefix_value = (along_begins inv.along);
+      noted = (stepping_noted inv);
     }
 
 pub list_tree-loop-next-smaller : goal.list_tree-loop-next-smaller
 list_tree-loop-next-smaller t c =
-    rw c.in-Some.is (stepping_less (rw c.in-Some.is at c.loop-next.invariant) (rw tail_is at c.list_branch-entered.ensures)
-    (search rules) (search rules) (rw front_is at c.next_match-next.ensures))
+    rw c.in-Some.is (stepping_less (rw c.in-Some.is at c.loop-next.invariant) c.list_branch-entered.ensures
+    (search rules) (search rules) c.next_match-next.ensures)
 
 pub list_tree-loop-next-preserved : goal.list_tree-loop-next-preserved
 list_tree-loop-next-preserved t c =
-    stepping_next (rw c.in-Some.is at c.loop-next.invariant) (rw tail_is at c.list_branch-entered.ensures)
-    (search rules) (search rules) (rw front_is at c.next_match-next.ensures)
+    stepping_next (rw c.in-Some.is at c.loop-next.invariant) c.list_branch-entered.ensures
+    (search rules) (search rules) c.next_match-next.ensures
 
 pub list_tree-returns : goal.list_tree-returns
 list_tree-returns t c = stepping_done (rw c.in_default.is at c.loop-next.invariant)
@@ -96,44 +94,44 @@ list_merged-new-merge-requires t c = list_any c.requires.can
 
 pub list_merged-list_tree-requires : goal.list_merged-list_tree-requires
 list_merged-list_tree-requires t c =
-    let o = (rw front_is at c.new-merge.ensures).one c.if-merge-eq1.true _ _ c.requires.can.list_at in
+    let o = c.new-merge.ensures.one c.if-merge-eq1.true _ _ c.requires.can.list_at in
     (omega (arith, one_earlier c.requires o), one_ready c.requires o)
 
 pub list_merged-returns-then-merge-eq1 : goal.list_merged-returns-then-merge-eq1
 list_merged-returns-then-merge-eq1 t c =
-    one_runs c.requires ((rw front_is at c.new-merge.ensures).one c.if-merge-eq1.true _ _ c.requires.can.list_at)
+    one_runs c.requires (c.new-merge.ensures.one c.if-merge-eq1.true _ _ c.requires.can.list_at)
     c.list_tree.ensures
 
 pub list_merged-loop-given-init : goal.list_merged-loop-given-init
-list_merged-loop-given-init t c = merging_first c.requires (rw front_is at c.new-merge.ensures).starts
+list_merged-loop-given-init t c = merging_first c.requires c.new-merge.ensures.starts
 
 pub list_merged-next-requires : goal.list_merged-next-requires
-list_merged-next-requires t c = rw front_is (merging_any c.loop-given.invariant)
+list_merged-next-requires t c = (merging_any c.loop-given.invariant)
 
 pub list_merged-list_branch-entered-requires : goal.list_merged-list_branch-entered-requires
 list_merged-list_branch-entered-requires t c =
-    let f = rw (front_is, c.in-Some.is) at c.next.ensures in (
+    let f = rw c.in-Some.is at c.next.ensures in (
       omega (arith, merging_earlier c.loop-given.invariant f),
-      rw tail_is (merging_branch c.loop-given.invariant f c.requires),
+      (merging_branch c.loop-given.invariant f c.requires),
     )
 
 pub list_merged-returns-then-budget-entered : goal.list_merged-returns-then-budget-entered
 list_merged-returns-then-budget-entered t c =
-    merging_spent c.loop-given.invariant (rw (front_is, c.in-Some.is) at c.next.ensures)
-    (rw tail_is at c.list_branch-entered.ensures) (search rules) (search rules) c.if-budget-entered.true
+    merging_spent c.loop-given.invariant (rw c.in-Some.is at c.next.ensures)
+    c.list_branch-entered.ensures (search rules) (search rules) c.if-budget-entered.true
 
 pub list_merged-loop-given-smaller : goal.list_merged-loop-given-smaller
 list_merged-loop-given-smaller t c =
-    merging_less c.loop-given.invariant (rw (front_is, c.in-Some.is) at c.next.ensures)
+    merging_less c.loop-given.invariant (rw c.in-Some.is at c.next.ensures)
 
 pub list_merged-loop-given-preserved : goal.list_merged-loop-given-preserved
 list_merged-loop-given-preserved t c =
-    merging_next c.loop-given.invariant (rw (front_is, c.in-Some.is) at c.next.ensures)
-    (rw tail_is at c.list_branch-entered.ensures) (search rules) (search rules)
+    merging_next c.loop-given.invariant (rw c.in-Some.is at c.next.ensures)
+    c.list_branch-entered.ensures (search rules) (search rules)
 
 pub list_merged-returns : goal.list_merged-returns
 list_merged-returns t c =
-    merging_done c.loop-given.invariant (rw (front_is, c.in_default.is) at c.next.ensures)
+    merging_done c.loop-given.invariant (rw c.in_default.is at c.next.ensures)
 
 -- ---- list_names
 

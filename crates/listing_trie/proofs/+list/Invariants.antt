@@ -1,4 +1,4 @@
-use Rattle.std.proofs.Common.{◌+◌, ◌*◌, length, take}
+use Rattle.std.proofs.Common.{◌+◌, ◌*◌, length}
 use Rattle.merge.specs.Stream.{state_of, left_in}
 use Rattle.listing_trie.proofs.Listed.{onward, Stepping, Merging}
 use Rattle.listing_trie.proofs.+list.Given as goal
@@ -30,16 +30,16 @@ decreases-list_trie l =
 
 abbrev pub invariant-list_merged-loop-given : goal.invariant-list_merged-loop-given
 invariant-list_merged-loop-given l =
-    Merging l.words l.text l.query l.place l.list l.fn.run l.run l.fn.flat l.flat l.fn.out l.out (state_of l.merge)
+    Merging l.words l.text l.place l.list l.fn.run l.run l.fn.flat l.flat l.fn.out l.out (state_of l.merge)
 
 abbrev pub decreases-list_merged-loop-given : goal.decreases-list_merged-loop-given
 decreases-list_merged-loop-given l =
-    left_in l.words l.text (take l.place.cut.len l.query) (state_of l.merge)
+    left_in l.words l.text l.place.cut.prefix.now (state_of l.merge)
 
 abbrev pub invariant-list_tree-loop-next : goal.invariant-list_tree-loop-next
 invariant-list_tree-loop-next l =
-    Stepping l.words l.text l.query l.place l.found l.fn.run l.run l.fn.flat l.flat l.fn.out l.out l.notes l.next
+    Stepping l.words l.text l.place l.found l.fn.run l.run l.fn.flat l.flat l.fn.out l.out l.notes l.next
 
 abbrev pub decreases-list_tree-loop-next : goal.decreases-list_tree-loop-next
 decreases-list_tree-loop-next l =
-    length (onward l.words l.text (take l.place.cut.len l.query) l.found.link l.next)
+    length (onward l.words l.text l.place.cut.prefix.now l.found.link l.next)
