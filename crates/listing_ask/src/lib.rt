@@ -11,7 +11,7 @@ ghost use Rattle.listing_ask.specs.Ask.{filter_in};
 use source::KindFilter;
 
 // The filter of modules: Loaded is of either sort. That of names is source's KindFilter.
-#[derive(Clone, Copy)]
+#[derive(Clone, Copy, PartialEq, Eq)]
 pub enum Filter {
     All,
     Loaded,
@@ -20,14 +20,14 @@ pub enum Filter {
 }
 
 // What a completion asks: names, or modules and namespaces, with a filter.
-#[derive(Clone, Copy)]
+#[derive(Clone, Copy, PartialEq, Eq)]
 pub enum Ask {
     Names(KindFilter),
     Modules(Filter),
 }
 
 // What a completion is asked, beside its query: which lines, and how many tries it may enter.
-#[derive(Clone, Copy)]
+#[derive(Clone, Copy, PartialEq, Eq)]
 pub struct Request {
     pub ask: Ask,
     pub budget: u32,

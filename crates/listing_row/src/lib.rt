@@ -45,8 +45,8 @@ fn item_in(words: &[u32], ask: Ask) -> RowItem
     ensures { result ≡ item_in (asked ask) (record_at words.now 1) }
 {
     match ask {
-        Ask::Names(f) => RowItem::Name(memory_access::lid_of(words, 1)),
-        Ask::Modules(f) => RowItem::Symbol(memory_access::symbol_of(words, 1)),
+        Ask::Names(_) => RowItem::Name(memory_access::lid_of(words, 1)),
+        Ask::Modules(_) => RowItem::Symbol(memory_access::symbol_of(words, 1)),
     }
 }
 
@@ -66,9 +66,9 @@ fn row_in(words: &[u32], ask: Ask) -> Row
     };
     Row {
         matched: memory_access::word_of(words, 1, MATCHED),
-        item: item,
-        candidate: candidate,
-        annotation: annotation,
+        item,
+        candidate,
+        annotation,
     }
 }
 
