@@ -132,9 +132,6 @@ pub record Passing (ws txt : List ℕ) (p : Str) (m m' : State) : Type 0 where
       → Rest ws txt w ℓ x p m' es
   pub fewer : left_in ws txt p m' ≤ left_in ws txt p m
 
-pub passing_none : {ws txt : List ℕ} {p : Str} (m : State) → Passing ws txt p m m
-passing_none m = record { says = λ w v x s g. g; fewer = omega arith }
-
 module _ {ws txt : List ℕ} {p : Str} {m m' : State} (o : Passing ws txt p m m') (y : AnyRest ws txt p m) where
   abbrev now_rest : Rest ws txt y.which y.level y.link p m' y.entries
   now_rest = o.says y.which y.level y.link y.entries y.rest

@@ -184,17 +184,6 @@ has_append : {ws txt : List ℕ} {w : Which} {ℓ : Level} {l : ℕ} {p : Str} {
 has_append i j [] ds e no_more b = let f : j ≡ i = omega arith in rw f at b
 has_append i j (c ∷ cs) ds e (more h a) b = more h (has_append (suc i) j cs ds (omega arith) a b)
 
-pub full_set : (ws txt : List ℕ) {roots heads beginnings labels : List ℕ} (i a b c : ℕ)
-    → Full roots heads beginnings labels
-    → Full (set roots i a) (set heads i b) (with_beginning ws txt beginnings i b) (set labels i c)
-full_set ws txt {roots} {heads} {beginnings} {labels} i a b c f =
-    record {
-      of_roots = length-set roots i a ∙ f.of_roots;
-      of_heads = length-set heads i b ∙ f.of_heads;
-      of_beginnings = length-set beginnings i _ ∙ f.of_beginnings;
-      of_labels = length-set labels i c ∙ f.of_labels;
-    }
-
 -- The lists of 96 cells.
 pub full_cells : (cells : List Cell) → length cells ≡ 96
     → Full (roots cells) (heads cells) (beginnings cells) (labels cells)

@@ -26,9 +26,6 @@ module _ (n : ℕ) (child next : List ℕ) (few : n ≤ 96) (i : ℕ) where
     },
   )
 
-  pub kids_small : (h : Heap ℕ) → Rep n child next i h → (i ≡ 96 → ⊥) → get_or child i 0 ≤ 96
-  kids_small h p ne = root_small n child next few (get_or child i 0) (rep_kids h p ne).0 (rep_kids h p ne).1.holds
-
   module _ (cmp : ℕ → ℕ → Ordering) where
     pub pop_none : i ≡ 96 → Pops cmp n child next child next i i None
     unfolding heap_pop
@@ -68,8 +65,3 @@ module _ (cmp : ℕ → ℕ → Ordering) where
           is_other j v (λ e. omega arith),
         ));
       })
-
-  pub built_all : (n : ℕ) (child next : List ℕ) (root v : ℕ) → Built n child next root v → n ≤ v
-      → Rep n child next root (heap_from_list cmp (first_cells n))
-  built_all n child next root v b l =
-      let e : v ≡ n = omega (arith, b.below) in subst (λ (k : ℕ). Rep n child next root (heap_from_list cmp (first_cells k))) e b.rep
