@@ -294,7 +294,7 @@ module _ {ws txt : List ℕ} {p : Str} {m : State} {cell rest : ℕ} {child' nex
     pub next_in : TextIn ws txt r × (cell < 96)
     next_in = let l = popped_cell.0 in (branch_head g.here (next_branch g l (later_next (cell_tree g cell l) p (get_or m.heads cell 0) r e)), cell_small)
 
-    -- The cells have m.heads, once this one has its m.next.
+    -- The cells have heads, once this one has its next.
     next_heads : (j : ℕ) → j < m.n → Head ws txt (set m.heads cell r) (with_beginning ws txt m.beginnings cell r) j
     next_heads j i =
         let l = popped_cell.0 in

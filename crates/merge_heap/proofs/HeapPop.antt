@@ -9,7 +9,7 @@ use Rattle.source.specs.Heap.{Heap, Forest, EmptyHeap, HeapOf, []ᶠ, heap_inser
 use Rattle.source.proofs.Heap.{insert_all_more, sum_merge}
 use Rattle.merge_heap.specs.Cells.{Holdsᶠ, is, count, Sized, Rep, Repᶠ, Inserts, Pairs, Pops, first_cells}
 use Rattle.std.specs.Prelude.{Some, None}
-use Rattle.merge_heap.proofs.CellCounts.{root_small, is_other}
+use Rattle.merge_heap.proofs.CellCounts.{is_other}
 
 -- ---- heap_pop
 module _ (n : ℕ) (child next : List ℕ) (few : n ≤ 96) (i : ℕ) where
