@@ -4,7 +4,7 @@ use mathlib.Core.Path.{◌≡◌, refl, sym, ap, ◌∙◌}
 use mathlib.Core.Bool.{true}
 use mathlib.Core.List.{List, [], ◌∷◌, ◌++◌, append-nil}
 use native.Mathlib.Omega.{arith}
-use lib.ListN.{length, drop}
+use lib.ListN.{length}
 use borrow.Author.Tests.{ltb-false}
 use Rattle.source.specs.Text.{Str, Query, segments}
 use Rattle.source.specs.Types.{Trie}
@@ -31,7 +31,9 @@ use Rattle.register_kind.specs.declared.CallKind.TheVariants.{Name, Include, Ope
 use Rattle.register_kind.specs.declared.Form.{Form}
 use Rattle.register_kind.specs.declared.Form.TheVariants as form
 use Rattle.register_plan.specs.Plans.{Carries}
-use Rattle.register_way.specs.Way.{steps_at, step_size, included_in, below_in, which_by, Way}
+use Rattle.register_way.specs.Way.{which_by, WayDown}
+use Rattle.register_way.specs.declared.Way.{Way}
+use Rattle.register_way.specs.declared.Step.{Step}
 use Rattle.register_leaf.specs.Leaves.{which_of, Builds}
 use Rattle.register_change.specs.Changes.{mutated, descent, Mutation, TrieWay, Mutated}
 use Rattle.register_leaf.specs.declared.Change.{Change}
@@ -104,18 +106,18 @@ carries_keeps o y (form.Module loaded) inc s r = r
 
 -- And so does the way.
 way_keeps : {ws txt txt' : List ℕ} {n used : ℕ} → Used ws txt n used → Keeps used txt txt'
-    → (w : Which) (k : CallKind) (other key : Str) (way : List ℕ) (x : ℕ) (q : Query)
-    → LinkOk ws (n + 1) x (kind w trieˢ) → Way ws txt w k other key way x q → Way ws txt' w k other key way x q
-way_keeps o y w k other key way x [] i z = rw (what_keeps o y w trieˢ (omega arith) i) z
-way_keeps {ws} {n = n} o y w k other key way x (s ∷ q) i z =
-    let j : LinkOk ws (n + 1) (below_in way) (kind w trieˢ) = link_later (omega (arith, i.earlier)) z.0.next.link in
+    → (w : Which) (k : CallKind) (other key : Str) (way : List Step) (x : ℕ) (q : Query)
+    → LinkOk ws (n + 1) x (kind w trieˢ) → WayDown ws txt w k other key way x q → WayDown ws txt' w k other key way x q
+way_keeps o y w k other key [] x q i z = z
+way_keeps o y w k other key (step ∷ way) x [] i z = rw (what_keeps o y w trieˢ (omega arith) i) z
+way_keeps {ws} {n = n} o y w k other key (step ∷ way) x (s ∷ q) i z =
+    let j : LinkOk ws (n + 1) step.below (kind w trieˢ) = link_later (omega (arith, i.earlier)) z.0.next.link in
     let e = what_keeps o y w trieˢ (omega arith) i in (
       record {
-        long = z.0.long;
         next = record { link = z.0.next.link; says = what_keeps o y w trieˢ (omega arith) j ∙ z.0.next.says ∙ rw e };
         builds = z.0.builds ∙ rw e;
       },
-      way_keeps o y w k other key (drop step_size way) (below_in way) q j z.1,
+      way_keeps o y w k other key way step.below q j z.1,
     )
 
 -- ---- What a call leaves, by its kind
@@ -137,7 +139,7 @@ root_stays Alias host other key h link m used = refl
 root_stays (Module loaded) host other key h link m used = refl
 
 -- ---- Whole
-module _ {ws txt : List ℕ} {h : Header} {k : CallKind} {host other key : Str} {way : List ℕ}
+module _ {ws txt : List ℕ} {h : Header} {k : CallKind} {host other key : Str} {way : Way}
     (p : Passes ws txt h k host other key way) where
   passed : Acceptable true (lent ws txt) (state_of ws txt h) (call_of k host other key)
   passed = registration_rows_none true _ _ _ p.rows
@@ -174,28 +176,28 @@ module _ {ws txt : List ℕ} {h : Header} {k : CallKind} {host other key : Str} 
     }
 
     abbrev change : Change
-    change = change_at k (included_in way) h.text host other key
+    change = change_at k way.included h.text host other key
 
     right : Right h sound_after h.text (h.text + length host) (call_of k host other key) change
         (root_at (which_of change) h)
-    right = change_right h sound_after h.text host other key l.stand (omega arith) k (included_in way) is_ready
-        (carries_keeps p.sound l.keeps (shape_of k).form (included_in way) other p.carries)
+    right = change_right h sound_after h.text host other key l.stand (omega arith) k way.included is_ready
+        (carries_keeps p.sound l.keeps (shape_of k).form way.included other p.carries)
 
     pub write_mutation : Mutation ws txt' h.records (text_after h host other key)
         (root_at (which_by (shape_of k).form) h) h.text
-        (descent h.text (h.text + length host) (change_at k (included_in way) h.text host other key))
+        (descent h.text (h.text + length host) (change_at k way.included h.text host other key))
     write_mutation =
         right_mutation h sound_after h.text host other key l.stand (omega arith) right is_ready.host_ends is_ready.host_keeps
         (rw (table_keeps p.sound l.keeps) passed.light) (rw (table_keeps p.sound l.keeps) passed.shallow)
         (rw (table_keeps p.sound l.keeps) records_room)
 
     pub write_way : TrieWay ws txt' (root_at (which_by (shape_of k).form) h) h.text
-        (descent h.text (h.text + length host) (change_at k (included_in way) h.text host other key))
-        (drop steps_at way)
+        (descent h.text (h.text + length host) (change_at k way.included h.text host other key))
+        way.steps
     write_way = record {
       leads =
           rw (host_is h sound_after h.text host other key l.stand (omega arith), l.stand.other_at, l.stand.key_at)
-          (way_keeps p.sound.right l.keeps (which_of change) k other key (drop steps_at way) _ (segments host) right.link p.leads);
+          (way_keeps p.sound.right l.keeps (which_of change) k other key way.steps _ (segments host) right.link p.leads);
     }
 
     built_accepts : {ws' : List ℕ} {link m : ℕ}
@@ -220,7 +222,7 @@ module _ {ws txt : List ℕ} {h : Header} {k : CallKind} {host other key : Str} 
 
     pub write_accepts : {ws' : List ℕ} {x link m : ℕ} {r : Header} → x ≡ root_at (which_by (shape_of k).form) h
         → Mutated ws ws' txt' h.records x h.text
-        (descent h.text (h.text + length host) (change_at k (included_in way) h.text host other key)) link m
+        (descent h.text (h.text + length host) (change_at k way.included h.text host other key)) link m
         → r ≡ with_root (which_by (shape_of k).form) h link m (text_after h host other key)
         → Accepts ws txt ws' txt' h r (call_of k host other key) (after (state_of ws txt h) (call_of k host other key))
     write_accepts e g f = rw f (built_accepts ((rw e at g) _ write_mutation))

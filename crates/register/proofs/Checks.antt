@@ -1,5 +1,4 @@
 -- The rows of a registration: what its texts keep, and rows 5 to 8 by its plan.
-use Rattle.std.specs.Prelude.{Result, Ok, Err, ⊤}
 use Prim.Native.Nat.{ℕ, ◌+◌, ◌≤◌}
 use mathlib.Core.Path.{◌≡◌, refl, ◌∙◌}
 use mathlib.Core.Bool.{Bool, true, false, cond, ◌||◌}
@@ -18,9 +17,7 @@ use Rattle.source.proofs.Refusals.{any_append, first_row_stops, first_row_past, 
 use Rattle.source.proofs.PlannedDepth.{deep_planned}
 use Rattle.source.proofs.PlannedWeight.{crowded_planned}
 use Rattle.source.proofs.PlannedRecords.{records_planned}
-use Rattle.refusals.specs.Refusals.{row_of}
 use Rattle.refusals.specs.Rows.{capacity_rows}
-use Rattle.refusals.specs.declared.Refusal.{Refusal}
 use Rattle.refusals.proofs.Rows.{query_ends}
 use Rattle.register_kind.specs.Shapes.{shape_of, call_of, argument_as, other_argument, key_argument}
 use Rattle.register_kind.specs.declared.CallKind.{CallKind}
@@ -28,12 +25,12 @@ use Rattle.register_kind.specs.declared.Form.{Form}
 use Rattle.register_kind.specs.declared.Form.TheVariants as form
 use Rattle.register_kind.proofs.Shapes.{arguments_of, taken_is}
 use Rattle.memory.specs.Layout.{Which, names, modules}
-use Rattle.memory_table.specs.Table.{root_at, table_of, state_of}
+use Rattle.memory_table.specs.Table.{root_at, table_of}
 use Rattle.memory_table.specs.declared.Header.{Header}
 use Rattle.register_way.specs.Way.{which_by}
 use Rattle.register_plan.specs.Plans.{Planned, RootReads, Carries}
 use Rattle.register_plan.specs.declared.Plan.{Plan}
-use Rattle.register.specs.Checks.{NoKey, Ready, lent, Passes, Checks}
+use Rattle.register.specs.Checks.{NoKey, Ready}
 
 -- ---- Texts
 pub call_ready : (k : CallKind) (host other key : Str) → Admitted true (arguments (call_of k host other key))
@@ -101,18 +98,9 @@ module _ (lent : Lent) (σ : State) (c : Call) where
   pub rows_planned : {p : Plan} {taken : ℕ} → SoundTable σ.table → Planned σ.table c p
       → taken ≡ text_taken (arguments c) → first_row (argument_rows true (arguments c)) ≡ none
       → first_row (registration_rows true lent σ c) ≡ first_row (capacity_rows
-      (record { crowded = p.crowded; deep = p.deep; records = p.records; text = taken })
+      (record { crowded = p.cost.crowded; deep = p.deep; records = p.cost.records; text = taken })
       (record { words = lent.words; records = σ.records_used; text = lent.text; used = σ.text_used }))
   unfolding registration_rows
   rows_planned o p e f =
       first_row_past (argument_rows true (arguments c)) _ f
       ∙ rw (crowded_planned σ.table c o, deep_planned σ.table c o, records_planned σ.table c, e, p.records, p.crowded, p.deep)
-
--- The answer of a check, by the row that the memory has room for.
-pub checks_by : (r : Result ⊤ Refusal) {ws txt : List ℕ} {h : Header} {k : CallKind} {host other key : Str} {way : List ℕ}
-    → first_row (registration_rows true (lent ws txt) (state_of ws txt h) (call_of k host other key)) ≡ row_of r
-    → (first_row (registration_rows true (lent ws txt) (state_of ws txt h) (call_of k host other key)) ≡ none
-    → Passes ws txt h k host other key way)
-    → Checks ws txt h k host other key way r
-checks_by (Ok x) e f = f e
-checks_by (Err x) e f = e

@@ -1,5 +1,5 @@
 -- The rows of a registration over a header.
-use Rattle.std.specs.Prelude.{ℕ, ◌≡◌, true, false, List, length, drop, Result, Ok, Err}
+use Rattle.std.specs.Prelude.{ℕ, ◌≡◌, true, false, List, length, Result, Ok, Err}
 use Rattle.std.proofs.Math.Option.{none, some}
 use Rattle.source.specs.Text.{Str, segments, ends_in_dot}
 use Rattle.source.specs.Calls.{Lent, malformed, first_row, registration_rows}
@@ -12,7 +12,8 @@ use Rattle.memory_table.specs.declared.Header.{Header}
 use Rattle.register_kind.specs.Shapes.{shape_of, used_key, call_of, other_argument, key_argument}
 use Rattle.register_kind.specs.declared.CallKind.{CallKind}
 use Rattle.register_plan.specs.Plans.{Carries}
-use Rattle.register_way.specs.Way.{steps_at, way_size, included_in, which_by, Way}
+use Rattle.register_way.specs.Way.{which_by, WayDown}
+use Rattle.register_way.specs.declared.Way.{Way}
 
 -- What is lent with a table.
 abbrev pub lent : (ws txt : List ℕ) → Lent
@@ -30,19 +31,17 @@ pub record Ready (k : CallKind) (host other key : Str) : Type 0 where
   pub other_keeps : Keeps (other_argument k other)
   pub key_keeps : Allˡ Keeps (key_argument k key)
 
--- A registration that passes every row of a sound memory, where the included trie and then the way to the host are noted.
-pub record Passes (ws txt : List ℕ) (h : Header) (k : CallKind) (host other key : Str) (way : List ℕ) : Type 0 where
+-- A registration that passes every row of a sound memory, with its way: the included trie, and the steps to the host.
+pub record Passes (ws txt : List ℕ) (h : Header) (k : CallKind) (host other key : Str) (way : Way) : Type 0 where
   pub sound : Sound ws txt h
   pub no_key : NoKey k key
   pub rows : first_row (registration_rows true (lent ws txt) (state_of ws txt h) (call_of k host other key)) ≡ none
-  pub size : length way ≡ way_size
-  pub carries : Carries (shape_of k).form ws txt h.names other (included_in way)
-  pub leads : Way ws txt (which_by (shape_of k).form) k other key (drop steps_at way)
+  pub carries : Carries (shape_of k).form ws txt h.names other way.included
+  pub leads : WayDown ws txt (which_by (shape_of k).form) k other key way.steps
       (root_at (which_by (shape_of k).form) h) (segments host)
 
--- The answer of a check: that it passes, or the first row that it meets.
-abbrev pub Checks : (ws txt : List ℕ) (h : Header) (k : CallKind) (host other key : Str) (way : List ℕ)
-    → Result Unit Refusal → Type 0
-Checks ws txt h k host other key way (Ok _) = Passes ws txt h k host other key way
-Checks ws txt h k host other key way (Err x) =
+-- The answer of a check: the way of one that passes, or the first row that it meets.
+abbrev pub Checks : (ws txt : List ℕ) (h : Header) (k : CallKind) (host other key : Str) → Result Way Refusal → Type 0
+Checks ws txt h k host other key (Ok way) = Passes ws txt h k host other key way
+Checks ws txt h k host other key (Err x) =
     first_row (registration_rows true (lent ws txt) (state_of ws txt h) (call_of k host other key)) ≡ some (number x)

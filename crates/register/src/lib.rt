@@ -10,7 +10,7 @@ ghost use Rattle.memory_table.specs.Table.{state_of, Sound, root_at};
 ghost use Rattle.memory.specs.Sound.{At};
 ghost use Rattle.register_kind.specs.Shapes.{call_of, argument_as};
 ghost use Rattle.register_plan.specs.Plans.{Carries};
-ghost use Rattle.register_way.specs.Way.{which_by, way_size};
+ghost use Rattle.register_way.specs.Way.{which_by};
 ghost use Rattle.register.specs.Checks.{NoKey, Passes, Checks};
 ghost use Rattle.register.specs.Writes.{TextsLaid, with_root, Accepts};
 
@@ -20,10 +20,7 @@ use refusals::{Capacity, Demand, Flags, Refusal};
 use register_change::Descent;
 use register_kind::{CallKind, Entry, Form};
 use register_leaf::Change;
-use register_way::{INCLUDED, STEPS};
-
-// The size of the array that a check notes the way of a registration in, for its writing.
-pub const WAY: usize = register_way::WAY;
+use register_way::Way;
 
 // The flags of the id, the included query or the file path.
 fn other_flags(form: Form, other: &[u8]) -> Flags
@@ -51,10 +48,9 @@ fn flags_of(kind: CallKind, host: &[u8], other: &[u8], key: &[u8]) -> Flags
     ensures { AllFlagged (arguments (call_of kind host.now other.now key.now)) result }
 {
     let s = register_kind::shape_of(kind);
-    let form = s.form;
     let k = key_flags(s.keyed, key);
     let h = refusals::query_flags(host);
-    let o = other_flags(form, other);
+    let o = other_flags(s.form, other);
     refusals::either(k, refusals::either(h, o))
 }
 
@@ -65,9 +61,8 @@ fn included(words: &[u32], text: &[u8], root: u32, form: Form, other: &[u8]) -> 
     ensures { Carries form words.now text.now root other.now result }
 {
     match form {
-        Form::Name => 0,
+        Form::Name | Form::Module(_) => 0,
         Form::Import => find_trie::trie_descend(words, text, root, other),
-        Form::Module(_) => 0,
     }
 }
 
@@ -76,13 +71,12 @@ fn root_of(h: Header, form: Form) -> u32
     ensures { result ≡ root_at (which_by form) h }
 {
     match form {
-        Form::Name => h.names,
-        Form::Import => h.names,
+        Form::Name | Form::Import => h.names,
         Form::Module(_) => h.modules,
     }
 }
 
-// Rows 2 to 8. Of a registration that passes them, the included trie and the way to its host are noted.
+// Rows 2 to 8. Of a registration that passes them the answer is the included trie and the way to its host, for its writing.
 pub fn check(
     words: &[u32],
     text: &[u8],
@@ -91,23 +85,21 @@ pub fn check(
     host: &[u8],
     other: &[u8],
     key: &[u8],
-    way: &mut [u32; WAY],
-) -> Result<(), Refusal>
+) -> Result<Way, Refusal>
     requires sound { Sound words.now text.now h }
-    requires no_key { NoKey entry.kind key.now × (length way.old ≡ way_size) }
-    ensures { Checks words.now text.now h entry.kind host.now other.now key.now way.new result }
+    requires no_key { NoKey entry.kind key.now }
+    ensures { Checks words.now text.now h entry.kind host.now other.now key.now result }
 {
     let kind = entry.kind;
     refusals::admit(flags_of(kind, host, other, key))?;
-    let s = register_kind::shape_of(kind);
-    let form = s.form;
-    way[INCLUDED] = included(words, text, h.names, form, other);
+    let form = register_kind::shape_of(kind).form;
+    let mut way = Way::new(included(words, text, h.names, form, other));
     let root = root_of(h, form);
-    let p = register_plan::plan_of(words, text, root, kind, host, other, key, way);
+    let p = register_plan::plan_of(words, text, root, kind, host, other, key, &mut way);
     let demand = Demand {
-        crowded: p.crowded,
+        crowded: p.cost.crowded,
         deep: p.deep,
-        records: p.records,
+        records: p.cost.records,
         text: host.len() + other.len() + key.len(),
     };
     let capacity = Capacity {
@@ -116,7 +108,8 @@ pub fn check(
         text: text.len(),
         used: h.text,
     };
-    refusals::afford(demand, capacity)
+    refusals::afford(demand, capacity)?;
+    Ok(way)
 }
 
 // Writes the texts of a registration after the used ones.
@@ -136,20 +129,18 @@ fn put_texts(text: &mut [u8], used: u32, host: &[u8], other: &[u8], key: &[u8])
 fn changed(h: Header, form: Form, link: u32, records: u32, text: u32) -> Header
     ensures { result ≡ with_root (which_by form) h link records text }
 {
-    let of_names = Header {
-        names: link,
-        modules: h.modules,
-        records: records,
-        text: text,
-    };
     match form {
-        Form::Name => of_names,
-        Form::Import => of_names,
+        Form::Name | Form::Import => Header {
+            names: link,
+            modules: h.modules,
+            records,
+            text,
+        },
         Form::Module(_) => Header {
             names: h.names,
             modules: link,
-            records: records,
-            text: text,
+            records,
+            text,
         },
     }
 }
@@ -163,7 +154,7 @@ pub fn write(
     host: &[u8],
     other: &[u8],
     key: &[u8],
-    way: &[u32],
+    way: &Way,
 ) -> Header
     requires { Passes words.old text.old h entry.kind host.now other.now key.now way.now }
     ensures { Accepts words.old text.old words.new text.new h result
@@ -177,25 +168,21 @@ pub fn write(
     let end = start + len;
     put_texts(text, h.text, host, other, key);
     let change = Change {
-        kind: kind,
-        text: Span {
-            start: start,
-            len: len,
-        },
+        kind,
+        text: Span { start, len },
         key: Span {
             start: end,
             len: size,
         },
-        inc: way[INCLUDED],
+        inc: way.included,
     };
-    let s = register_kind::shape_of(kind);
-    let form = s.form;
+    let form = register_kind::shape_of(kind).form;
     let root = root_of(h, form);
     let d = Descent {
         from: h.text,
         end: start,
-        change: change,
+        change,
     };
-    let b = register_change::trie_mutate(words, text, h.records, root, h.text, d, &way[STEPS..]);
+    let b = register_change::trie_mutate(words, text, h.records, root, h.text, d, &way.steps);
     changed(h, form, b.link, b.records, end + size)
 }

@@ -1,10 +1,11 @@
 -- namespaces_mutate and trie_mutate: what each step asks, and what it builds.
 use Prim.Native.Nat.{ℕ, ◌+◌, ◌-◌, ◌≤◌, ◌<◌}
-use mathlib.Core.Path.{◌≡◌}
+use mathlib.Core.Path.{◌≡◌, refl}
 use mathlib.Core.Bool.{true}
-use mathlib.Core.List.{List}
+use mathlib.Core.List.{List, [], ◌∷◌}
 use native.Mathlib.Omega.{arith}
-use lib.ListN.{length}
+use lib.ListN.{length, drop}
+use Rattle.std.specs.Prelude.{slice_index_or}
 use Rattle.source.specs.Text.{segments, ends_in_dot}
 use Rattle.source.specs.Types.{Trie, NameList, ns, namespaces}
 use Rattle.source.specs.Tries.{scope_of}
@@ -21,7 +22,7 @@ use Rattle.memory.proofs.Seen.{link_later}
 use Rattle.insert_record.specs.Made.{Made}
 use Rattle.insert_list.specs.Insert.{NamesInsertion, AnyNamesInsertion, NamesInserts}
 use Rattle.insert_record.proofs.Made.{made_then, made_what, made_link, made_room}
-use Rattle.register_way.specs.Way.{step_size, below_in, count_in}
+use Rattle.register_way.specs.declared.Step.{Step}
 use Rattle.register_kind.specs.Shapes.{shape_of}
 use Rattle.register_kind.specs.declared.Form.{Form}
 use Rattle.register_kind.specs.declared.Form.TheVariants as form
@@ -40,12 +41,12 @@ module _ {ws txt : List ℕ} {n used x at len : ℕ} {d : Descent} (g : Namespac
   spaces_key : TextOk IsKey txt used at len
   spaces_key = key_in g.place g.cut
 
-  module _ {way : List ℕ} (z : NamespacesWay ws txt n x at len d way) where
+  module _ {step : Step} {way : List Step} (z : NamespacesWay ws txt n x at len d step way) where
     abbrev value : Trie (Item (which_of d.change))
     value = (mutated ws txt d.change (scope_of (what (which_of d.change) ws txt x (list ns)) (span txt at len)) d.from (at + len + 1) d.end).value
 
     -- What is asked of the scope.
-    pub spaces_mutation : Mutation ws txt n used (below_in way) (at + len + 1) d
+    pub spaces_mutation : Mutation ws txt n used step.below (at + len + 1) d
     unfolding ◌>>=◌
     spaces_mutation =
         let w = inserted_within (what (which_of d.change) ws txt x (list ns)) (span txt at len) value in
@@ -60,7 +61,7 @@ module _ {ws txt : List ℕ} {n used x at len : ℕ} {d : Descent} (g : Namespac
           });
         }
 
-    module _ {ws₁ : List ℕ} {i n₁ k : ℕ} (S : Mutated ws ws₁ txt n (below_in way) (at + len + 1) d i n₁)
+    module _ {ws₁ : List ℕ} {i n₁ k : ℕ} (S : Mutated ws ws₁ txt n step.below (at + len + 1) d i n₁)
         (h : Kinds d.change k) where
       scope_builds : Builds ws ws₁ txt n used (which_of d.change) trieˢ
           (mutated ws txt d.change (scope_of (what (which_of d.change) ws txt x (list ns)) (span txt at len))
@@ -74,18 +75,26 @@ module _ {ws txt : List ℕ} {n used x at len : ℕ} {d : Descent} (g : Namespac
       abbrev spaces_row : List ℕ
       spaces_row = namespace_row k (record { start = at; len = len }) i
 
-      pub spaces_insertion : NamesInsertion ws₁ txt (which_of d.change) ns n₁ used x (count_in way) spaces_row
+      pub spaces_insertion : NamesInsertion ws₁ txt (which_of d.change) ns n₁ used x step.count spaces_row
       spaces_insertion = scope_insertion scope_builds g.change.sound g.link k kind_is _ spaces_key z.first.builds g.fits.room g.fits.light
 
-      pub spaces_any : AnyNamesInsertion ws₁ txt n₁ x (count_in way) spaces_row
+      pub spaces_any : AnyNamesInsertion ws₁ txt n₁ x step.count spaces_row
       spaces_any = record { which = which_of d.change; level = ns; used = used; insertion = spaces_insertion }
 
-      pub spaces_built : {ws₂ : List ℕ} {y : ℕ} → y ≡ n₁ + count_in way + 1
-          → NamesInserts ws₁ ws₂ txt n₁ x (count_in way) spaces_row y
+      pub spaces_built : {ws₂ : List ℕ} {y : ℕ} → y ≡ n₁ + step.count + 1
+          → NamesInserts ws₁ ws₂ txt n₁ x step.count spaces_row y
           → Builds ws ws₂ txt n used (which_of d.change) (list ns)
           (namespaces_mutated ws txt d.change (what (which_of d.change) ws txt x (list ns)) d.from at len
           d.end) y y
       spaces_built f m = scope_built scope_builds g.change.sound g.link k kind_is _ spaces_key z.first.builds spaces_insertion f m
+
+-- ---- the first step of a way
+abbrev pub first_of : List Step → Step
+first_of way = slice_index_or way 0 (record { below = 0; count = 0 })
+
+pub some_way : {ws txt : List ℕ} {x at : ℕ} {d : Descent} (way : List Step) → TrieWay ws txt x at d way → 0 < length way
+some_way [] y = absurd y.leads
+some_way (s ∷ way) y = omega arith
 
 -- ---- trie_mutate at the host
 module _ (ws txt : List ℕ) (at : ℕ) (d : Descent) (e : at ≡ d.end) where
@@ -97,10 +106,14 @@ module _ (ws txt : List ℕ) (at : ℕ) (d : Descent) (e : at ≡ d.end) where
   pub leaf_mutation : {n used x : ℕ} → Mutation ws txt n used x at d → Leaf ws txt n used x d.change
   leaf_mutation m = record { change = m.change; link = m.link; fits = rw mutated_leaf at m.fits }
 
-  pub leaf_way : {x : ℕ} {way : List ℕ} → TrieWay ws txt x at d way
-      → (step_size ≤ length way) × LeafBuilds ws txt x d.change (count_in way)
+  no_segment : between txt at d.end ≡ []
   unfolding span segments
-  leaf_way y = let z : d.end - at ≡ 0 = omega arith in rw z at y.leads
+  no_segment = let z : d.end - at ≡ 0 = omega arith in rw z refl
+
+  pub leaf_way : {x : ℕ} (way : List Step) → TrieWay ws txt x at d way
+      → LeafBuilds ws txt x d.change (first_of way).count
+  leaf_way [] y = absurd y.leads
+  leaf_way (s ∷ way) y = rw no_segment at y.leads
 
   pub leaf_mutated : {ws' : List ℕ} {n x link n' : ℕ} → LeafBuilt ws ws' txt n x d.change link n'
       → Mutated ws ws' txt n x at d link n'
@@ -172,12 +185,13 @@ module _ {ws txt : List ℕ} {n used x at len : ℕ} {d : Descent} {p : M.Trie} 
     });
   }
 
-  pub spaces_way : {way : List ℕ} → TrieWay ws txt x at d way → NamespacesWay ws txt n p.namespaces at len d way
-  spaces_way y =
+  pub spaces_way : (way : List Step) → TrieWay ws txt x at d way
+      → NamespacesWay ws txt n p.namespaces at len d (first_of way) (drop 1 way)
+  spaces_way [] y = absurd y.leads
+  spaces_way (s ∷ way) y =
       let z = rw c.splits at y.leads in
       record {
         first = rw mutation_lists.n_reads (record {
-          long = z.0.long;
           next = record {
             link = link_later (omega (arith, m.link.earlier)) z.0.next.link;
             says = z.0.next.says;

@@ -1,5 +1,5 @@
 -- Changes of a trie along a query: the source's mut_node with its records, and what the cycle asks and makes.
-use Rattle.std.specs.Prelude.{ℕ, ◌+◌, ◌-◌, ◌≤◌, ◌<◌, ◌≡◌, Bool, true, cond, List, [], ◌∷◌, reverse, drop}
+use Rattle.std.specs.Prelude.{ℕ, ◌+◌, ◌-◌, ◌≤◌, ◌<◌, ◌≡◌, Bool, true, cond, List, [], ◌∷◌, reverse}
 use Rattle.source.specs.Limits.{heaviest_list, deepest_trie}
 use Rattle.source.specs.Text.{Str, Query, segments, ends_in_dot}
 use Rattle.source.specs.Types.{Trie, NameList, bind, ns, trie, bindings}
@@ -12,7 +12,8 @@ use Rattle.memory.specs.Sound.{LinkOk, Used}
 use Rattle.memory.specs.Read.{text_of}
 use Rattle.memory.specs.declared.Span.{Span}
 use Rattle.insert_record.specs.Made.{Room}
-use Rattle.register_way.specs.Way.{step_size, below_in, which_by, StepNoted, Way}
+use Rattle.register_way.specs.Way.{which_by, StepNoted, WayDown}
+use Rattle.register_way.specs.declared.Step.{Step}
 use Rattle.register_kind.specs.Shapes.{shape_of}
 use Rattle.register_kind.specs.declared.Form.{Form}
 use Rattle.register_kind.specs.declared.Form.TheVariants as form
@@ -150,15 +151,16 @@ pub record Mutation (ws txt : List ℕ) (n used x at : ℕ) (d : Descent) : Type
   pub fits : Fits ws n (mutated ws txt d.change (what (which_of d.change) ws txt x trieˢ) d.from at d.end)
 
 -- The way from the trie x down what is left of the query, to what the change inserts.
-pub record TrieWay (ws txt : List ℕ) (x at : ℕ) (d : Descent) (way : List ℕ) : Type 0 where
-  pub leads : Way ws txt (which_of d.change) d.change.kind (text_of txt d.change.text)
+pub record TrieWay (ws txt : List ℕ) (x at : ℕ) (d : Descent) (way : List Step) : Type 0 where
+  pub leads : WayDown ws txt (which_of d.change) d.change.kind (text_of txt d.change.text)
       (text_of txt d.change.key) way x (between txt at d.end)
 
--- The way from the list x of namespaces down the segment of len bytes from at on, and what is left after it; n records are used.
-pub record NamespacesWay (ws txt : List ℕ) (n x at len : ℕ) (d : Descent) (way : List ℕ) : Type 0 where
+-- The step from the list x of namespaces down the segment of len bytes from at on, and the way after it; n records are used.
+pub record NamespacesWay (ws txt : List ℕ) (n x at len : ℕ) (d : Descent) (step : Step)
+    (way : List Step) : Type 0 where
   pub first : StepNoted ws txt (which_of d.change) n (what (which_of d.change) ws txt x (list ns))
-      (span txt at len) way
-  pub rest : TrieWay ws txt (below_in way) (at + len + 1) d (drop step_size way)
+      (span txt at len) step
+  pub rest : TrieWay ws txt step.below (at + len + 1) d way
 
 -- ---- What a change makes
 

@@ -13,7 +13,7 @@ ghost use Rattle.register_change.specs.Changes.{TrieWay, BindingsBuilt, NodeBuil
 use memory::{ModSymbol, OF_MODULES, Span, TRIE_KIND};
 use register_kind::Form;
 use register_leaf::{Built, Change, mut_leaf};
-use register_way::{BELOW, COUNT, STEP};
+use register_way::Step;
 
 // What stays the same on the way down a query: where the query begins and ends in the text, and the change at its end.
 #[derive(Clone, Copy)]
@@ -48,30 +48,19 @@ fn kinds_of(change: Change) -> u32
     }
 }
 
-// The words of the branch of a module, or of a namespace where it is not the last segment: the name from `at` on, the full name from `from` on.
-fn symbol_row(
-    last: bool,
-    at: u32,
-    len: u32,
-    from: u32,
-    loaded: bool,
-    path: Span,
-) -> [u32; memory::ROW]
-    requires { (from ≤ at) × (at + len ≤ most_used) }
-    ensures { result ≡ symbol_row last at len from loaded path }
+// The words of the branch of a module, or of a namespace where it is not the last segment: its full name begins at `from`.
+fn symbol_row(last: bool, segment: Span, from: u32, loaded: bool, path: Span) -> [u32; memory::ROW]
+    requires { (from ≤ segment.start) × (segment.start + segment.len ≤ most_used) }
+    ensures { result ≡ symbol_row last segment.start segment.len from loaded path }
 {
-    let key = Span {
-        start: at,
-        len: len,
-    };
     let name = Span {
         start: from,
-        len: at + len - from,
+        len: segment.start + segment.len - from,
     };
     if last {
-        return memory_access::make::symbol_row(key, ModSymbol::Module(name, path, loaded));
+        return memory_access::make::symbol_row(segment, ModSymbol::Module(name, path, loaded));
     }
-    memory_access::make::symbol_row(key, ModSymbol::Namespace(name, loaded))
+    memory_access::make::symbol_row(segment, ModSymbol::Namespace(name, loaded))
 }
 
 // ins-stays-loaded: a Module at the last segment, loaded also in place of a loaded one; a Namespace before it where ins_ns inserts.
@@ -80,32 +69,29 @@ fn ins(
     text: &[u8],
     records: u32,
     bindings: u32,
-    at: u32,
-    len: u32,
+    segment: Span,
     d: Descent,
     loaded: bool,
 ) -> Built
-    requires { Some (λ used. Bindings words.old text.now records used bindings at len d (form.Module loaded)) }
-    ensures { BindingsBuilt words.old words.new text.now records bindings at len d (form.Module loaded)
-        result.link result.records }
+    requires { Some
+        (λ used. Bindings words.old text.now records used bindings segment.start segment.len d (form.Module loaded)) }
+    ensures { BindingsBuilt words.old words.new text.now records bindings segment.start segment.len d
+        (form.Module loaded) result.link result.records }
 {
-    let first = at as usize;
-    let size = len as usize;
-    let p = find_list::names_place(words, text, bindings, &text[first..first + size]);
-    let last = at + len + 1 == d.end;
+    let start = segment.start as usize;
+    let end = start + segment.len as usize;
+    let p = find_list::names_place(words, text, bindings, &text[start..end]);
+    let last = segment.start + segment.len + 1 == d.end;
     if last | find_trie::ns_inserts(words, p.holder, loaded) {
         let change = d.change;
         let flag = (last & find_trie::loaded_module(words, p.holder)) | loaded;
-        let row = symbol_row(last, at, len, d.from, flag, change.text);
+        let row = symbol_row(last, segment, d.from, flag, change.text);
         let b = insert_list::names_insert(words, text, records, bindings, p.count, row);
-        return Built {
-            link: b,
-            records: b,
-        };
+        return Built::last(b);
     }
     Built {
         link: bindings,
-        records: records,
+        records,
     }
 }
 
@@ -115,13 +101,13 @@ fn mut_bindings(
     text: &[u8],
     records: u32,
     bindings: u32,
-    at: u32,
-    len: u32,
+    segment: Span,
     d: Descent,
 ) -> Built
-    requires { Some (λ used. Bindings words.old text.now records used bindings at len d (form_of d)) }
-    ensures { BindingsBuilt words.old words.new text.now records bindings at len d (form_of d) result.link
-        result.records }
+    requires { Some
+        (λ used. Bindings words.old text.now records used bindings segment.start segment.len d (form_of d)) }
+    ensures { BindingsBuilt words.old words.new text.now records bindings segment.start segment.len d
+        (form_of d) result.link result.records }
 {
     let change = d.change;
     let kind = change.kind;
@@ -130,13 +116,13 @@ fn mut_bindings(
     match f {
         Form::Name => Built {
             link: bindings,
-            records: records,
+            records,
         },
         Form::Import => Built {
             link: bindings,
-            records: records,
+            records,
         },
-        Form::Module(loaded) => ins(words, text, records, bindings, at, len, d, loaded),
+        Form::Module(loaded) => ins(words, text, records, bindings, segment, d, loaded),
     }
 }
 
@@ -147,62 +133,43 @@ fn mut_node(
     records: u32,
     trie: u32,
     namespaces: u32,
-    at: u32,
-    len: u32,
+    segment: Span,
     d: Descent,
-) -> Built
-    requires { Some (λ used. Node words.old text.now records used trie namespaces at len d) }
-    ensures { NodeBuilt words.old words.new text.now records trie namespaces at len d result.link
-        result.records }
+) -> u32
+    requires { Some (λ used. Node words.old text.now records used trie namespaces segment.start segment.len d) }
+    ensures { NodeBuilt words.old words.new text.now records trie namespaces segment.start segment.len d result
+        result }
 {
     let t = memory_access::trie_of(words, trie);
-    let b = mut_bindings(words, text, records, t.bindings, at, len, d);
+    let b = mut_bindings(words, text, records, t.bindings, segment, d);
     let kinds = kinds_of(d.change);
-    let link = insert_record::put_trie(words, b.records, kinds + TRIE_KIND, b.link, namespaces);
-    Built {
-        link: link,
-        records: link,
-    }
+    insert_record::put_trie(words, b.records, kinds + TRIE_KIND, b.link, namespaces)
 }
 
-// The source's namespaces_mutate. rev_acc is what stands before `at`; the next segment has `len` bytes.
-// The way is that from this segment on.
+// The source's namespaces_mutate. rev_acc is what stands before the next segment, which the step is of; the way is that after it.
 #[cycle(namespaces_mutate_trie_mutate)]
 fn namespaces_mutate(
     words: &mut [u32],
     text: &[u8],
     records: u32,
     namespaces: u32,
-    at: u32,
-    len: u32,
+    segment: Span,
     d: Descent,
-    way: &[u32],
-) -> Built
-    requires some { Some (λ used. NamespacesMutation words.old text.now records used namespaces at len d) }
-    requires namespaces_way { NamespacesWay words.old text.now records namespaces at len d way.now }
-    ensures { NamespacesMutated words.old words.new text.now records namespaces at len d result.link
-        result.records }
+    step: Step,
+    way: &[Step],
+) -> u32
+    requires some { Some
+        (λ used. NamespacesMutation words.old text.now records used namespaces segment.start segment.len d) }
+    requires namespaces_way { NamespacesWay words.old text.now records namespaces segment.start segment.len d step
+        way.now }
+    ensures { NamespacesMutated words.old words.new text.now records namespaces segment.start segment.len d result
+        result }
 {
     let kinds = kinds_of(d.change);
-    let m = trie_mutate(
-        words,
-        text,
-        records,
-        way[BELOW],
-        at + len + 1,
-        d,
-        &way[STEP..],
-    );
-    let key = Span {
-        start: at,
-        len: len,
-    };
-    let row = memory_access::make::namespace_row(kinds, key, m.link);
-    let link = insert_list::names_insert(words, text, m.records, namespaces, way[COUNT], row);
-    Built {
-        link: link,
-        records: link,
-    }
+    let next = segment.start + segment.len + 1;
+    let m = trie_mutate(words, text, records, step.below, next, d, way);
+    let row = memory_access::make::namespace_row(kinds, segment, m.link);
+    insert_list::names_insert(words, text, m.records, namespaces, step.count, row)
 }
 
 // The source's trie_mutate: the trie of `trie` changed below the segments from `at` on, which the way leads down.
@@ -214,17 +181,30 @@ pub fn trie_mutate(
     trie: u32,
     at: u32,
     d: Descent,
-    way: &[u32],
+    way: &[Step],
 ) -> Built
     requires some { Some (λ used. Mutation words.old text.now records used trie at d) }
     requires trie_way { TrieWay words.old text.now trie at d way.now }
     ensures { Mutated words.old words.new text.now records trie at d result.link result.records }
 {
+    let step = way[0];
     if at == d.end {
-        return mut_leaf(words, text, records, trie, d.change, way[COUNT]);
+        return mut_leaf(words, text, records, trie, d.change, step.count);
     }
-    let len = segment_in(text, at, d.end);
+    let segment = Span {
+        start: at,
+        len: segment_in(text, at, d.end),
+    };
     let t = memory_access::trie_of(words, trie);
-    let n = namespaces_mutate(words, text, records, t.namespaces, at, len, d, way);
-    mut_node(words, text, n.records, trie, n.link, at, len, d)
+    let n = namespaces_mutate(
+        words,
+        text,
+        records,
+        t.namespaces,
+        segment,
+        d,
+        step,
+        &way[1..],
+    );
+    Built::last(mut_node(words, text, n, trie, n, segment, d))
 }

@@ -17,6 +17,7 @@ use Rattle.register_kind.specs.declared.CallKind.TheVariants.{Name, Include, Ope
 use Rattle.register_kind.specs.declared.Form.{Form}
 use Rattle.register_kind.specs.declared.Form.TheVariants as form
 use Rattle.register_leaf.specs.declared.Change.{Change}
+use Rattle.register_leaf.specs.declared.Built.{Built}
 
 -- ---- Changes
 
@@ -114,6 +115,10 @@ pub record Builds (ws ws' txt : List ℕ) (n used : ℕ) (w : Which) (so : Sort)
     (link n' : ℕ) : Type 0 where
   pub number : n' ≡ n + c.count
   pub made : Made ws ws' txt n n' used w so link c.value
+
+-- The record that was made last: its link is the number of records used.
+abbrev pub built : ℕ → Built
+built link = record { link = link; records = link }
 
 -- mut_leaf, for any text used.
 abbrev pub LeafBuilt : (ws ws' txt : List ℕ) (n x : ℕ) (ch : Change) (link n' : ℕ) → Type 0

@@ -1,7 +1,7 @@
 // mut_leaf of each kind of registration: what is put into the trie at the end of a query, building records after the used ones.
 #![tactic(auto)]
 
-ghost use Rattle.std.specs.Prelude.{◌≡◌, ◌-◌};
+ghost use Rattle.std.specs.Prelude.{◌≡◌};
 ghost use Rattle.register_kind.specs.declared.CallKind.TheVariants.{Name, Include, Open, Alias};
 ghost use Rattle.register_leaf.specs.Leaves.{with_kind, label_in, Some, Leaf, LeafBuilds, LeafBuilt};
 
@@ -26,14 +26,18 @@ pub struct Built {
     pub records: u32,
 }
 
-// One less, down to 0.
-fn less_one(n: u32) -> u32
-    ensures { result ≡ n - 1 }
-{
-    if n == 0 {
-        return 0;
+impl Built {
+    ghost use Rattle.register_leaf.specs.Leaves.{built};
+
+    // The record that was made last.
+    pub fn last(link: u32) -> Built
+        ensures { result ≡ built link }
+    {
+        Built {
+            link,
+            records: link,
+        }
     }
-    n - 1
 }
 
 // The label of an included query: without its last dot.
@@ -42,7 +46,7 @@ fn label_of(text: Span) -> Span
 {
     Span {
         start: text.start,
-        len: less_one(text.len),
+        len: text.len.saturating_sub(1),
     }
 }
 
@@ -55,45 +59,37 @@ fn insert_leaf(
     change: Change,
     item: LidSymbol,
     count: u32,
-) -> Built
+) -> u32
     requires some { Some (λ used. Leaf words.old text.now records used trie
         (with_kind (Name item.kind item.number) change)) }
     requires leaf_builds { LeafBuilds words.old text.now trie (with_kind (Name item.kind item.number) change) count }
     ensures { LeafBuilt words.old words.new text.now records trie
-        (with_kind (Name item.kind item.number) change) result.link result.records }
+        (with_kind (Name item.kind item.number) change) result result }
 {
     let t = memory_access::trie_of(words, trie);
     let row = memory_access::make::binding_row(change.text, item);
     let b = insert_list::names_insert(words, text, records, t.bindings, count, row);
-    let link = insert_record::put_trie(words, b, TRIE_KIND, b, t.namespaces);
-    Built {
-        link: link,
-        records: link,
-    }
+    insert_record::put_trie(words, b, TRIE_KIND, b, t.namespaces)
 }
 
 // trie_include's.
-fn include_leaf(words: &mut [u32], text: &[u8], records: u32, trie: u32, change: Change) -> Built
+fn include_leaf(words: &mut [u32], text: &[u8], records: u32, trie: u32, change: Change) -> u32
     requires { Some (λ used. Leaf words.old text.now records used trie (with_kind Include change)) }
-    ensures { LeafBuilt words.old words.new text.now records trie (with_kind Include change) result.link
-        result.records }
+    ensures { LeafBuilt words.old words.new text.now records trie (with_kind Include change) result
+        result }
 {
     let t = memory_access::trie_of(words, trie);
     let i = memory_access::trie_of(words, change.inc);
     let label = label_of(change.text);
     let b = insert_record::imported(words, records, BINDINGS_KIND, label, i.bindings, t.bindings);
-    let link = insert_record::put_trie(words, b, TRIE_KIND, b, t.namespaces);
-    Built {
-        link: link,
-        records: link,
-    }
+    insert_record::put_trie(words, b, TRIE_KIND, b, t.namespaces)
 }
 
 // trie_open_namespace's.
-fn open_leaf(words: &mut [u32], text: &[u8], records: u32, trie: u32, change: Change) -> Built
+fn open_leaf(words: &mut [u32], text: &[u8], records: u32, trie: u32, change: Change) -> u32
     requires { Some (λ used. Leaf words.old text.now records used trie (with_kind Open change)) }
-    ensures { LeafBuilt words.old words.new text.now records trie (with_kind Open change) result.link
-        result.records }
+    ensures { LeafBuilt words.old words.new text.now records trie (with_kind Open change) result
+        result }
 {
     let t = memory_access::trie_of(words, trie);
     let i = memory_access::trie_of(words, change.inc);
@@ -106,11 +102,7 @@ fn open_leaf(words: &mut [u32], text: &[u8], records: u32, trie: u32, change: Ch
         i.namespaces,
         t.namespaces,
     );
-    let link = insert_record::put_trie(words, n, TRIE_KIND, t.bindings, n);
-    Built {
-        link: link,
-        records: link,
-    }
+    insert_record::put_trie(words, n, TRIE_KIND, t.bindings, n)
 }
 
 // trie_add_alias's: at the key a fresh trie of the included bindings alone.
@@ -121,11 +113,11 @@ fn alias_leaf(
     trie: u32,
     change: Change,
     count: u32,
-) -> Built
+) -> u32
     requires some { Some (λ used. Leaf words.old text.now records used trie (with_kind Alias change)) }
     requires leaf_builds { LeafBuilds words.old text.now trie (with_kind Alias change) count }
-    ensures { LeafBuilt words.old words.new text.now records trie (with_kind Alias change) result.link
-        result.records }
+    ensures { LeafBuilt words.old words.new text.now records trie (with_kind Alias change) result
+        result }
 {
     let t = memory_access::trie_of(words, trie);
     let i = memory_access::trie_of(words, change.inc);
@@ -134,11 +126,7 @@ fn alias_leaf(
     let scope = insert_record::put_trie(words, b, TRIE_KIND, b, 0);
     let row = memory_access::make::namespace_row(0, change.key, scope);
     let n = insert_list::names_insert(words, text, scope, t.namespaces, count, row);
-    let link = insert_record::put_trie(words, n, TRIE_KIND, t.bindings, n);
-    Built {
-        link: link,
-        records: link,
-    }
+    insert_record::put_trie(words, n, TRIE_KIND, t.bindings, n)
 }
 
 // mut_leaf of a change; `count` is that of the branches that its insertion builds, where it inserts.
@@ -154,21 +142,17 @@ pub fn mut_leaf(
     requires leaf_builds { LeafBuilds words.old text.now trie change count }
     ensures { LeafBuilt words.old words.new text.now records trie change result.link result.records }
 {
-    let kind = change.kind;
-    match kind {
+    match change.kind {
         CallKind::Name(kind, number) => {
-            let item = LidSymbol {
-                kind: kind,
-                number: number,
-            };
-            insert_leaf(words, text, records, trie, change, item, count)
+            let item = LidSymbol { kind, number };
+            Built::last(insert_leaf(words, text, records, trie, change, item, count))
         }
-        CallKind::Include => include_leaf(words, text, records, trie, change),
-        CallKind::Open => open_leaf(words, text, records, trie, change),
-        CallKind::Alias => alias_leaf(words, text, records, trie, change, count),
+        CallKind::Include => Built::last(include_leaf(words, text, records, trie, change)),
+        CallKind::Open => Built::last(open_leaf(words, text, records, trie, change)),
+        CallKind::Alias => Built::last(alias_leaf(words, text, records, trie, change, count)),
         CallKind::Module(_) => Built {
             link: trie,
-            records: records,
+            records,
         },
     }
 }

@@ -199,33 +199,14 @@ impl Table {
     {
         let kind = entry.kind;
         let n = register_kind::key_size(kind, key.len());
-        let mut way = [0; register::WAY];
-        let k = register::check(
-            words,
-            text,
-            self.header,
-            entry,
-            host,
-            other,
-            &key[..n],
-            &mut way,
-        );
-        match k {
+        let key = &key[..n];
+        match register::check(words, text, self.header, entry, host, other, key) {
             Err(x) => Registration {
                 table: self,
                 answer: Registered::Refused(x),
             },
-            Ok(()) => {
-                let h = register::write(
-                    words,
-                    text,
-                    self.header,
-                    entry,
-                    host,
-                    other,
-                    &key[..n],
-                    &way,
-                );
+            Ok(way) => {
+                let h = register::write(words, text, self.header, entry, host, other, key, &way);
                 Registration {
                     table: Table { header: h },
                     answer: Registered::Accepted,

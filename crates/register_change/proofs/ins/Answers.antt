@@ -6,8 +6,8 @@ use Rattle.register_change.proofs.Nodes.{placed_part, ins_key, ins_list, ins_any
 use native.Mathlib.Omega.{arith}
 use Rattle.register_change.proofs.ins.Goals as goal
 
-pub overflow_add-first : goal.overflow_add-first
-overflow_add-first c =
+pub overflow_add-end : goal.overflow_add-end
+overflow_add-end c =
     let holds = c.requires.holds in omega (arith, (ins_key holds).inside, holds.sound.text_fits, holds.sound.short)
 
 pub slice_bounds-names_place-count : goal.slice_bounds-names_place-count
@@ -58,8 +58,8 @@ names_insert-b-requires c =
 
 pub returns-then-last-ns_inserts : goal.returns-then-last-ns_inserts
 returns-then-last-ns_inserts c used i =
-    ins_made i (placed_part _ _ c.names_place-p.ensures) c.ns_inserts.ensures c.if-last-ns_inserts.true
-    c.loaded_module.ensures c.symbol_row-row.ensures c.names_insert-b.ensures.value c.names_insert-b.ensures.names_inserts
+    rw c.last.ensures (ins_made i (placed_part _ _ c.names_place-p.ensures) c.ns_inserts.ensures c.if-last-ns_inserts.true
+    c.loaded_module.ensures c.symbol_row-row.ensures c.names_insert-b.ensures.value c.names_insert-b.ensures.names_inserts)
 
 pub returns : goal.returns
 returns c used i =

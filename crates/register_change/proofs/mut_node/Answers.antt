@@ -15,11 +15,11 @@ pub overflow_add-kinds : goal.overflow_add-kinds
 overflow_add-kinds c =
     omega (arith, c.kinds_of-kinds.ensures.0)
 
-pub put_trie-link-requires : goal.put_trie-link-requires
-put_trie-link-requires c =
+pub put_trie-requires : goal.put_trie-requires
+put_trie-requires c =
     let p = node_ready c.requires.holds c.trie_of-t.ensures c.mut_bindings-b.ensures in record { room = p.0; namespaces_le_records = p.1 }
 
 pub returns : goal.returns
 returns c used i =
     node_built i c.trie_of-t.ensures c.mut_bindings-b.ensures c.kinds_of-kinds.ensures
-    c.put_trie-link.ensures.value c.put_trie-link.ensures.made_trie
+    c.put_trie.ensures.value c.put_trie.ensures.made_trie

@@ -32,8 +32,8 @@ names_insert-n-requires c =
           (rw c.label_of-label.ensures at c.imported-b.ensures.made_imported) c.put_trie-scope.ensures.value c.put_trie-scope.ensures.made_trie;
     })
 
-pub put_trie-link-requires : goal.put_trie-link-requires
-put_trie-link-requires c =
+pub put_trie-requires : goal.put_trie-requires
+put_trie-requires c =
     let p = alias_trie_ready c.requires.some.holds c.trie_of-t.ensures c.trie_of-i.ensures c.requires.leaf_builds c.imported-b.ensures.value
     (rw c.label_of-label.ensures at c.imported-b.ensures.made_imported) c.put_trie-scope.ensures.value c.put_trie-scope.ensures.made_trie
     c.names_insert-n.ensures.value
@@ -44,5 +44,5 @@ returns c used l =
     alias_built l c.trie_of-t.ensures c.trie_of-i.ensures c.requires.leaf_builds
     c.imported-b.ensures.value
     (rw c.label_of-label.ensures at c.imported-b.ensures.made_imported) c.put_trie-scope.ensures.value c.put_trie-scope.ensures.made_trie
-    c.names_insert-n.ensures.value (rw c.namespace_row-row.ensures at c.names_insert-n.ensures.names_inserts) c.put_trie-link.ensures.value
-    c.put_trie-link.ensures.made_trie
+    c.names_insert-n.ensures.value (rw c.namespace_row-row.ensures at c.names_insert-n.ensures.names_inserts) c.put_trie.ensures.value
+    c.put_trie.ensures.made_trie

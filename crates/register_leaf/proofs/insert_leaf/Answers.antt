@@ -18,12 +18,12 @@ names_insert-b-requires c =
       insertion = name_insertion pre.some.holds c.trie_of-t.ensures pre.leaf_builds;
     })
 
-pub put_trie-link-requires : goal.put_trie-link-requires
-put_trie-link-requires c =
+pub put_trie-requires : goal.put_trie-requires
+put_trie-requires c =
     let p = name_trie_ready c.requires.some.holds c.trie_of-t.ensures c.requires.leaf_builds c.names_insert-b.ensures.value
     (rw c.binding_row-row.ensures at c.names_insert-b.ensures.names_inserts) in record { room = p.0; namespaces_le_records = p.1 }
 
 pub returns : goal.returns
 returns c used l =
     name_built l c.trie_of-t.ensures c.requires.leaf_builds c.names_insert-b.ensures.value
-    (rw c.binding_row-row.ensures at c.names_insert-b.ensures.names_inserts) c.put_trie-link.ensures.value c.put_trie-link.ensures.made_trie
+    (rw c.binding_row-row.ensures at c.names_insert-b.ensures.names_inserts) c.put_trie.ensures.value c.put_trie.ensures.made_trie

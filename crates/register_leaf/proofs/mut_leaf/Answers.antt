@@ -20,19 +20,19 @@ alias_leaf-requires c =
 
 pub returns-in-Name : goal.returns-in-Name
 returns-in-Name c =
-    leaf_built c.args.change c.in-Name.is c.insert_leaf.ensures
+    rw c.last.ensures (leaf_built c.args.change c.in-Name.is c.insert_leaf.ensures)
 
 pub returns-in-Include : goal.returns-in-Include
 returns-in-Include c =
-    leaf_built c.args.change c.in-Include.is c.include_leaf.ensures
+    rw c.last-in-Include.ensures (leaf_built c.args.change c.in-Include.is c.include_leaf.ensures)
 
 pub returns-in-Open : goal.returns-in-Open
 returns-in-Open c =
-    leaf_built c.args.change c.in-Open.is c.open_leaf.ensures
+    rw c.last-in-Open.ensures (leaf_built c.args.change c.in-Open.is c.open_leaf.ensures)
 
 pub returns-in-Alias : goal.returns-in-Alias
 returns-in-Alias c =
-    leaf_built c.args.change c.in-Alias.is c.alias_leaf.ensures
+    rw c.last-in-Alias.ensures (leaf_built c.args.change c.in-Alias.is c.alias_leaf.ensures)
 
 pub returns-in-Module : goal.returns-in-Module
 returns-in-Module c =

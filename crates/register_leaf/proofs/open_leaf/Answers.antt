@@ -14,8 +14,8 @@ pub imported-n-requires : goal.imported-n-requires
 imported-n-requires c =
     let p = open_ready c.requires.holds c.trie_of-t.ensures c.trie_of-i.ensures in record { room = p.0; inner_le_records = p.1 }
 
-pub put_trie-link-requires : goal.put_trie-link-requires
-put_trie-link-requires c =
+pub put_trie-requires : goal.put_trie-requires
+put_trie-requires c =
     let p = open_trie_ready c.requires.holds c.trie_of-t.ensures
     c.trie_of-i.ensures c.imported-n.ensures.value (rw c.label_of-label.ensures at c.imported-n.ensures.made_imported) in
     record { room = p.0; namespaces_le_records = p.1 }
@@ -23,4 +23,4 @@ put_trie-link-requires c =
 pub returns : goal.returns
 returns c used l =
     open_built l c.trie_of-t.ensures c.trie_of-i.ensures c.imported-n.ensures.value
-    (rw c.label_of-label.ensures at c.imported-n.ensures.made_imported) c.put_trie-link.ensures.value c.put_trie-link.ensures.made_trie
+    (rw c.label_of-label.ensures at c.imported-n.ensures.made_imported) c.put_trie.ensures.value c.put_trie.ensures.made_trie

@@ -1,60 +1,18 @@
 -- plan_include meets its contract.
-use Rattle.find_list.proofs.Collections.{list_light}
 use Rattle.memory.proofs.Tries.{bindings_at}
-use Rattle.register_plan.proofs.Plans.{include_planned}
-use Rattle.register_way.proofs.Way.{noted_path}
 use Rattle.register_kind.specs.declared.CallKind.TheVariants.{Include}
-use native.Mathlib.Omega.{arith}
-use Rattle.memory.proofs.At.{at_fits}
+use Rattle.register_way.proofs.Steps.{noted_path}
+use Rattle.register_plan.proofs.Plans.{any_light, include_planned}
 use Rattle.register_plan.proofs.plan_include.Goals as goal
 
-pub trie_of-t-requires : goal.trie_of-t-requires
-trie_of-t-requires c =
-    at_fits c.plan_path-p.ensures.path.here
-
-pub trie_of-i-requires : goal.trie_of-i-requires
-trie_of-i-requires c =
-    at_fits c.requires.at.1
-
-pub weight_of-requires : goal.weight_of-requires
-weight_of-requires c =
-    omega (arith, at_fits (bindings_at c.requires.at.1 c.trie_of-i.ensures))
-
-pub weight_of-requires-2 : goal.weight_of-requires-2
-weight_of-requires-2 c =
-    omega (arith, at_fits (bindings_at c.plan_path-p.ensures.path.here c.trie_of-t.ensures))
-
-pub overflow_add-weight : goal.overflow_add-weight
-overflow_add-weight c =
-    omega (
-      arith,
-      list_light (bindings_at c.plan_path-p.ensures.path.here c.trie_of-t.ensures),
-      list_light (bindings_at c.requires.at.1 c.trie_of-i.ensures),
-      c.weight_of.ensures,
-      c.weight_of-2.ensures,
-    )
-
-pub overflow_add-weight-2 : goal.overflow_add-weight-2
-overflow_add-weight-2 c =
-    omega (
-      arith,
-      list_light (bindings_at c.plan_path-p.ensures.path.here c.trie_of-t.ensures),
-      list_light (bindings_at c.requires.at.1 c.trie_of-i.ensures),
-      c.weight_of.ensures,
-      c.weight_of-2.ensures,
-    )
-
-pub overflow_add-result : goal.overflow_add-result
-overflow_add-result c =
-    let plan-path = c.plan_path-p.ensures.path in omega (arith, plan-path.few, plan-path.gives.small)
+pub import-requires : goal.import-requires
+import-requires c =
+    (any_light (bindings_at c.requires.at.1 c.trie_of-i.ensures), any_light (bindings_at c.plan_path-p.ensures.path.here c.trie_of-t.ensures))
 
 pub returns : goal.returns
 returns c =
-    let plan-path = c.plan_path-p.ensures in
-    record {
-      include_planned = λ tbl q e f. include_planned _ plan-path.path c.trie_of-t.ensures tbl e c.requires.at.1
-          c.trie_of-i.ensures q f
-          c.weight_of.ensures c.weight_of-2.ensures;
-      path_noted = λ other key. noted_path plan-path.leads
-          (omega (arith, plan-path.path.few, plan-path.leads.kept.size, c.requires.host_value.2)) Include other key tt;
+    let p = c.plan_path-p.ensures in record {
+      include_planned = λ tbl q e f. rw (c.and.ensures, c.import.ensures)
+          (include_planned _ p.path c.trie_of-t.ensures tbl e c.requires.at.1 c.trie_of-i.ensures q f);
+      path_noted = λ other key. noted_path p.leads p.path.few Include other key tt;
     }

@@ -1,50 +1,37 @@
--- plan_path meets its contract: each step adds what it builds.
+-- plan_path meets its contract: each step adds what it makes.
 use Rattle.memory.specs.Layout.{names}
-use Rattle.register_way.proofs.Way.{leads_first}
-use Rattle.find_trie.proofs.Found.{stands_first}
-use Rattle.register_plan.proofs.Plans.{steps_first, leads_next, leads_end, path_next, path_few, path_last}
+use Rattle.register_plan.proofs.Plans.{walks_first, walks_few, path_next, path_last}
 use native.Mathlib.Omega.{arith}
 use Rattle.register_plan.proofs.plan_path.Goals as goal
 
-pub loop-at-init : goal.loop-at-init
-loop-at-init c =
-    (stands_first _ c.requires.host_value.0 c.requires.at steps_first, leads_first c.args.way.now)
+pub loop-s-init : goal.loop-s-init
+loop-s-init c = rw (c.into_iter-s-iterator.ensures.into_iter_gives, c.segments_of-s-items.ensures) (walks_first c.requires.at)
 
-pub segment_at-n-requires : goal.segment_at-n-requires
-segment_at-n-requires c =
-    (c.loop-at-test.true, c.loop-at.invariant.0.ends)
-
-pub plan_step-s-requires : goal.plan_step-s-requires
-plan_step-s-requires c = (
-  record { which = names; trie = c.loop-at.invariant.0.here },
-  omega (arith, path_few c.loop-at.invariant.0 c.segment_at-n.ensures, c.requires.host_value.1),
-  omega (arith, c.loop-at.invariant.1.kept.size, c.requires.host_value.2),
+pub plan_step-step-requires : goal.plan_step-step-requires
+plan_step-step-requires c = (
+  record { which = names; trie = c.loop-s.invariant.here },
+  walks_few (rw c.in-Some.ensures.steps at c.loop-s.invariant) c.requires.host_value,
 )
 
 pub overflow_add-segments : goal.overflow_add-segments
-overflow_add-segments c =
-    omega (arith, path_few c.loop-at.invariant.0 c.segment_at-n.ensures, c.requires.host_value.1)
+overflow_add-segments c = omega (arith, walks_few (rw c.in-Some.ensures.steps at c.loop-s.invariant) c.requires.host_value)
 
-pub overflow_add-records : goal.overflow_add-records
-overflow_add-records c =
+pub and-cost-requires : goal.and-cost-requires
+and-cost-requires c =
+    let inv = c.loop-s.invariant in
     omega (
       arith,
-      path_few c.loop-at.invariant.0 c.segment_at-n.ensures,
-      c.requires.host_value.1,
-      c.loop-at.invariant.0.says.small,
-      (c.plan_step-s.ensures names c.loop-at.invariant.0.here).small,
+      walks_few (rw c.in-Some.ensures.steps at inv) c.requires.host_value,
+      inv.gives.small,
+      (c.plan_step-step.ensures names inv.here).small,
     )
 
-pub loop-at-preserved : goal.loop-at-preserved
-loop-at-preserved c =
-    let inv = c.loop-at.invariant in (
-      path_next inv.0 c.segment_at-n.ensures c.plan_step-s.ensures,
-      leads_next inv.0.here inv.1 c.segment_at-n.ensures c.plan_step-s.ensures,
-    )
+pub loop-s-preserved : goal.loop-s-preserved
+loop-s-preserved c =
+    rw c.and-cost.ensures
+    (path_next (rw c.in-Some.ensures.steps at c.loop-s.invariant) c.requires.host_value c.plan_step-step.ensures)
 
 pub returns : goal.returns
 returns c =
-    record {
-      path = path_last c.loop-at.invariant.0 c.requires.host_value.1 c.loop-at-test.false;
-      leads = leads_end c.args.host.now c.loop-at.invariant.1 c.loop-at-test.false;
-    }
+    let inv = rw c.in-None.ensures.steps.0 at c.loop-s.invariant in
+    record { path = path_last inv c.requires.host_value; leads = inv.leads }

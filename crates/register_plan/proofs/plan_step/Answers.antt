@@ -20,12 +20,8 @@ trie_held-link-requires c =
       holder_fits (any_namespaces c.requires.0.trie c.trie_of-t.ensures) c.names_place-p.ensures.found,
     )
 
-pub note_step-requires : goal.note_step-requires
-note_step-requires c =
-    (c.requires.1, c.requires.2)
-
-pub overflow_add-result : goal.overflow_add-result
-overflow_add-result c =
+pub insertion-requires : goal.insertion-requires
+insertion-requires c =
     omega (
       arith,
       placed_small (any_namespaces c.requires.0.trie c.trie_of-t.ensures) c.names_place-p.ensures,
@@ -33,4 +29,4 @@ overflow_add-result c =
 
 pub returns : goal.returns
 returns c w t =
-    path_stepped t c.trie_of-t.ensures c.names_place-p.ensures c.trie_held-link.ensures c.note_step.ensures
+    rw c.insertion.ensures (path_stepped t c.trie_of-t.ensures c.names_place-p.ensures c.trie_held-link.ensures c.note_step.ensures)
