@@ -132,7 +132,7 @@ impl Notes {
         self.branches.take()
     }
 
-    // Takes the last mark, a near one where there is one.
+    // Takes the last mark, a near one where there is one. (The closure of an `or_else` would need clauses of its own.)
     pub fn take_mark(&mut self) -> Option<u32>
         ensures { MarkTaken self.old self.new result }
     {
