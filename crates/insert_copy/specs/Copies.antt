@@ -1,7 +1,7 @@
 -- The branches that an insertion makes, by the notes of the way down: copies with another side, and the lowest, which is new.
 use Rattle.std.specs.Prelude.{ℕ, suc, ◌+◌, ◌*◌, ◌≤◌, ◌<◌, max, ◌≡◌, Bool, true, cond, ◌||◌, List, eqb, length}
 use Rattle.source.specs.Limits.{deepest_trie, most_used, record_words}
-use Rattle.memory.specs.Layout.{record_at, kind_word, text_start, text_len, left_link, right_link, trie_link, note_link, note_side, kind}
+use Rattle.memory.specs.Layout.{record_at, kind_word, text_start, text_len, left_link, right_link, trie_link, note_link, note_side}
 use Rattle.memory.specs.Stored.{depth_in, left_in, right_in}
 use Rattle.memory.specs.Made.{sided_row, keyed_row}
 

@@ -7,16 +7,6 @@ ghost use Rattle.source.specs.Limits.{record_words};
 ghost use Rattle.memory.specs.Layout.{kind_word, trie_link};
 ghost use Rattle.insert_copy.specs.Copies.{of_namespaces, branch_depth, DepthOk, with_sides, raised_row, RaiseOk, with_key, lowest_row, LowestOk};
 
-// The larger of two numbers.
-fn larger(a: u32, b: u32) -> u32
-    ensures { result ≡ max a b }
-{
-    if a < b {
-        return b;
-    }
-    a
-}
-
 // Whether a kind is that of branches of namespaces.
 fn of_namespaces(kind: u32) -> bool
     ensures { result ≡ of_namespaces kind }
@@ -30,11 +20,8 @@ fn branch_depth(words: &[u32], kind: u32, held: u32, left: u32, right: u32) -> u
     ensures { result ≡ branch_depth words.now kind held left right }
 {
     if of_namespaces(kind) {
-        let sides = larger(
-            memory_access::depth_of(words, left),
-            memory_access::depth_of(words, right),
-        );
-        return larger(memory_access::depth_of(words, held) + 1, sides);
+        let sides = memory_access::depth_of(words, left).max(memory_access::depth_of(words, right));
+        return (memory_access::depth_of(words, held) + 1).max(sides);
     }
     0
 }

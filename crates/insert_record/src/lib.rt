@@ -16,11 +16,7 @@ fn put_collection(words: &mut [u32], records: u32, kind: u32, c: Collection) -> 
     ensures value { result ≡ records + 1 }
     ensures words_value { words.new ≡ put words.old records (collection_over words.old kind c) }
 {
-    let mut depth = memory_access::depth_of(words, c.own);
-    let other = memory_access::depth_of(words, c.rest);
-    if depth < other {
-        depth = other;
-    }
+    let depth = memory_access::depth_of(words, c.own).max(memory_access::depth_of(words, c.rest));
     let row = memory_access::make::collection_row(kind, c, depth);
     memory_access::put_row(words, records, &row);
     records + 1
@@ -37,9 +33,9 @@ pub fn put_names(words: &mut [u32], records: u32, kind: u32, own: u32, rest: u32
     let c = Collection {
         imported: false,
         label: Span { start: 0, len: 0 },
-        own: own,
-        rest: rest,
-        weight: weight,
+        own,
+        rest,
+        weight,
     };
     put_collection(words, records, kind, c)
 }
@@ -62,10 +58,10 @@ pub fn imported(
     let weight = memory_access::weight_of(words, inner) + memory_access::weight_of(words, list) + 1;
     let c = Collection {
         imported: true,
-        label: label,
+        label,
         own: inner,
         rest: list,
-        weight: weight,
+        weight,
     };
     put_collection(words, records, kind, c)
 }
@@ -78,8 +74,8 @@ pub fn put_trie(words: &mut [u32], records: u32, kind: u32, bindings: u32, names
     ensures made_trie { MadeTrie words.old words.new records kind bindings namespaces result }
 {
     let t = Trie {
-        bindings: bindings,
-        namespaces: namespaces,
+        bindings,
+        namespaces,
         depth: memory_access::depth_of(words, namespaces),
     };
     let row = memory_access::make::trie_row(kind, t);

@@ -27,6 +27,7 @@ fn note_path(words: &mut [u32], text: &[u8], records: u32, root: u32, count: u32
         × (records + count ≤ most_used) }
     ensures { Marked words.old words.new text.now key.now records root count }
 {
+    // The links lead down, the records are counted down beside: no range or slice has either.
     let mut at = records + count - 1;
     let mut link = root;
     while 0 < link {
@@ -71,11 +72,9 @@ pub fn btree_insert_replace(
     let low = insert_copy::lowest_row(words, records, row);
     memory_access::put_row(words, records, &low);
     let total = records + count;
-    let mut at = records + 1;
-    while at < total {
+    for at in records + 1..total {
         let next = insert_copy::raised_row(words, at);
         memory_access::put_row(words, at, &next);
-        at += 1;
     }
     total
 }

@@ -2,7 +2,6 @@
 use mathlib.Core.Path.{sym, ◌∙◌}
 use native.Mathlib.Numerals.{add-one}
 use Rattle.insert_copy.specs.Copies.{branch_depth}
-use native.Mathlib.Omega.{arith}
 use Rattle.insert_copy.proofs.branch_depth.Goals as goal
 
 pub depth_of-requires-then-of_namespaces-2 : goal.depth_of-requires-then-of_namespaces-2
@@ -10,17 +9,11 @@ unfolding branch_depth
 depth_of-requires-then-of_namespaces-2 c =
     c.requires.held_fits (sym c.of_namespaces.ensures ∙ c.if-of_namespaces.true)
 
-pub overflow_add-depth_of : goal.overflow_add-depth_of
-unfolding branch_depth
-overflow_add-depth_of c =
-    omega (arith, c.depth_of-then-of_namespaces-2.ensures, c.requires.shallow (sym c.of_namespaces.ensures ∙ c.if-of_namespaces.true))
-
 pub returns-then-of_namespaces : goal.returns-then-of_namespaces
 unfolding branch_depth
 returns-then-of_namespaces c =
-    rw (sym c.of_namespaces.ensures ∙ c.if-of_namespaces.true)
-    (c.larger.ensures
-    ∙ rw (c.larger-sides.ensures, c.depth_of.ensures, c.depth_of-then-of_namespaces.ensures, c.depth_of-then-of_namespaces-2.ensures, add-one))
+    rw (sym c.of_namespaces.ensures ∙ c.if-of_namespaces.true) (c.max.ensures
+    ∙ rw (c.max-sides.ensures, c.depth_of.ensures, c.depth_of-then-of_namespaces.ensures, c.depth_of-then-of_namespaces-2.ensures, add-one))
 
 pub returns : goal.returns
 unfolding branch_depth

@@ -4,34 +4,6 @@ use Rattle.insert_tree.proofs.Inserted.{rising_none, rising_up, all_risen}
 use native.Mathlib.Omega.{arith}
 use Rattle.insert_tree.proofs.btree_insert_replace.Goals as goal
 
-pub bounds-row-1 : goal.bounds-row-1
-bounds-row-1 c =
-    omega arith
-
-pub overflow_cast-start : goal.overflow_cast-start
-overflow_cast-start c =
-    omega arith
-
-pub bounds-row-2 : goal.bounds-row-2
-bounds-row-2 c =
-    omega arith
-
-pub overflow_cast-len : goal.overflow_cast-len
-overflow_cast-len c =
-    omega arith
-
-pub overflow_add-start : goal.overflow_add-start
-overflow_add-start c =
-    omega arith
-
-pub slice_bounds-note_path-count : goal.slice_bounds-note_path-count
-slice_bounds-note_path-count c =
-    omega arith
-
-pub slice_bounds-note_path-start : goal.slice_bounds-note_path-start
-slice_bounds-note_path-start c =
-    omega arith
-
 pub slice_bounds-note_path-end : goal.slice_bounds-note_path-end
 slice_bounds-note_path-end c =
     omega (arith, insertion_key c.requires.insertion)
@@ -62,10 +34,6 @@ pub overflow_add-total : goal.overflow_add-total
 overflow_add-total c =
     omega (arith, c.requires.insertion.few)
 
-pub overflow_add-at : goal.overflow_add-at
-overflow_add-at c =
-    omega (arith, c.requires.insertion.few)
-
 pub loop-at-init : goal.loop-at-init
 loop-at-init c =
     rising_none (lowest_risen
@@ -81,14 +49,6 @@ raised_row-next-requires c =
 pub put_row-requires-in-loop-at : goal.put_row-requires-in-loop-at
 put_row-requires-in-loop-at c =
     ((risen_ok c.loop-at.invariant.any.risen c.loop-at-test.true).room, omega arith)
-
-pub overflow_add-at-in-loop-at : goal.overflow_add-at-in-loop-at
-overflow_add-at-in-loop-at c =
-    omega arith
-
-pub loop-at-smaller : goal.loop-at-smaller
-loop-at-smaller c =
-    omega arith
 
 pub loop-at-preserved : goal.loop-at-preserved
 loop-at-preserved c =

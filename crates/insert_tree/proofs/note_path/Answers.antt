@@ -5,10 +5,6 @@ use Rattle.insert_tree.proofs.Marked.{mark_none}
 use native.Mathlib.Omega.{arith}
 use Rattle.insert_tree.proofs.note_path.Goals as goal
 
-pub overflow_add-at : goal.overflow_add-at
-overflow_add-at c =
-    omega arith
-
 pub overflow_sub-at : goal.overflow_sub-at
 overflow_sub-at c =
     let pre = c.requires in
