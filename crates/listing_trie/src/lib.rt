@@ -114,7 +114,8 @@ fn list_merged(
 {
     let budget = run.limits.budget;
     let prefix = place.cut.prefix;
-    let mut merge = Merge::new(words, text, prefix, list);
+    let mut merge = Merge::new();
+    merge.start(words, text, prefix, list);
     if merge.n == 1 {
         let alone = Labelled {
             link: merge.cells[0].root,

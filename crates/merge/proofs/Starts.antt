@@ -195,7 +195,7 @@ module _ {ws txt : List ℕ} {w : Which} {ℓ : Level} {x : ℕ} {p : Str} {root
         let o = part_at 0 parts a k k (omega arith) (omega arith) in
         rw (o.root_is, o.label_is, map-map)
 
--- ---- Merge::new
+-- ---- Merge::start
 ordered : {ws txt : List ℕ} {w : Which} {ℓ : Level} {x : ℕ} (t : At ws txt w (list ℓ) x)
     → OrderedN (what w ws txt x (list ℓ))
 ordered {ws} {txt} {w} {ℓ} {x} t =

@@ -3,7 +3,7 @@
 
 ghost use Rattle.std.specs.Prelude.{◌≡◌, ℕ, ◌≤◌, ◌<◌, get_or, set};
 ghost use Rattle.source.specs.Limits.{heaviest_list};
-ghost use Rattle.source.specs.Heap.{heap_from_list};
+ghost use Rattle.source.specs.Heap.{EmptyHeap, heap_from_list};
 ghost use Rattle.merge_heads.specs.Compare.{heads, beginnings, Head, Heads, cell_cmp};
 ghost use Rattle.merge_heap.specs.Cells.{children, nexts, Root, Rep, AnyHeap, AnyForest, Merges, Inserts, Pairs, Pops, first_cells};
 
@@ -27,6 +27,19 @@ pub struct Heap {
 }
 
 impl Heap {
+    // The empty heap.
+    pub fn new() -> Heap
+        ensures { Rep 0 (children result.links) (nexts result.links) result.root EmptyHeap }
+    {
+        Heap {
+            links: [Links {
+                child: NO_CELL,
+                next: NO_CELL,
+            }; CELLS],
+            root: CELLS,
+        }
+    }
+
     // Puts the heap of root `w` before the children of `v`.
     fn link(&mut self, v: usize, w: usize) -> usize
         requires { (v < heaviest_list) × (w < heaviest_list) }
@@ -133,22 +146,15 @@ impl Heap {
         Some(least)
     }
 
-    // heap_from_list, of the cells below `n`, the first one first.
-    pub fn from_list(words: &[u32], text: &[u8], cells: &[Cell; CELLS], n: usize) -> Heap
+    // heap_from_list, of the cells below `n`, the first one first. It is made in place, whatever was here.
+    pub fn fill(&mut self, words: &[u32], text: &[u8], cells: &[Cell; CELLS], n: usize)
         requires { Heads words.now text.now (heads cells.now) (beginnings cells.now) n }
-        ensures { Rep n (children result.links) (nexts result.links) result.root
+        ensures { Rep n (children self.new.links) (nexts self.new.links) self.new.root
             (heap_from_list (cell_cmp words.now text.now (heads cells.now)) (first_cells n)) }
     {
-        let mut heap = Heap {
-            links: [Links {
-                child: NO_CELL,
-                next: NO_CELL,
-            }; CELLS],
-            root: CELLS,
-        };
+        self.root = CELLS;
         for v in 0..n {
-            heap.insert(words, text, cells, v);
+            self.insert(words, text, cells, v);
         }
-        heap
     }
 }

@@ -89,21 +89,21 @@ list_tree-returns t c = stepping_done (rw c.in_default.is at c.loop-next.invaria
 
 -- ---- list_merged
 
-pub list_merged-new-merge-requires : goal.list_merged-new-merge-requires
-list_merged-new-merge-requires t c = list_any c.requires.can
+pub list_merged-start-requires : goal.list_merged-start-requires
+list_merged-start-requires t c = list_any c.requires.can
 
 pub list_merged-list_tree-requires : goal.list_merged-list_tree-requires
 list_merged-list_tree-requires t c =
-    let o = c.new-merge.ensures.one c.if-merge-eq1.true _ _ c.requires.can.list_at in
+    let o = c.start.ensures.one c.if-merge-eq1.true _ _ c.requires.can.list_at in
     (omega (arith, one_earlier c.requires o), one_ready c.requires o)
 
 pub list_merged-returns-then-merge-eq1 : goal.list_merged-returns-then-merge-eq1
 list_merged-returns-then-merge-eq1 t c =
-    one_runs c.requires (c.new-merge.ensures.one c.if-merge-eq1.true _ _ c.requires.can.list_at)
+    one_runs c.requires (c.start.ensures.one c.if-merge-eq1.true _ _ c.requires.can.list_at)
     c.list_tree.ensures
 
 pub list_merged-loop-given-init : goal.list_merged-loop-given-init
-list_merged-loop-given-init t c = merging_first c.requires c.new-merge.ensures.starts
+list_merged-loop-given-init t c = merging_first c.requires c.start.ensures.starts
 
 pub list_merged-next-requires : goal.list_merged-next-requires
 list_merged-next-requires t c = (merging_any c.loop-given.invariant)

@@ -1,13 +1,17 @@
--- `merge_heap::Heap::from_list` meets its contract. The heap has the cells passed.
-use mathlib.Core.Path.{refl}
+-- `merge_heap::Heap::fill` meets its contract. The heap has the cells passed.
+use mathlib.Core.Path.{◌≡◌, ◌∙◌}
+use lib.ListN.{length, length-map}
+use borrow.Author.Rules.{rules}
 use native.Mathlib.Omega.{arith}
 use Rattle.merge_heap.proofs.CellCounts.{root_in}
 use Rattle.merge_heap.proofs.HeapPop.{built_none, built_more}
-use Rattle.merge_heap.proofs.Heap.from_list.Goals as goal
+use Rattle.merge_heap.proofs.Heap.fill.Goals as goal
 
 pub loop-v-init : goal.loop-v-init
 loop-v-init c =
-    built_none _ _ _ _ (record { children = refl; siblings = refl })
+    let all : length c.args.self.now.links ≡ 96 = search rules in
+    built_none _ _ _ _
+    (record { children = length-map c.args.self.now.links (λ l. l.child) ∙ all; siblings = length-map c.args.self.now.links (λ l. l.next) ∙ all })
 
 pub insert-requires-clause-root : goal.insert-requires-clause-root
 insert-requires-clause-root c ne =
