@@ -1,19 +1,17 @@
 -- A walk down the path of a query, segment by segment: where it stands, and what it finds.
-use Prim.Native.Nat.{ℕ, ◌+◌, ◌-◌, ◌≤◌, ◌<◌}
+use Prim.Native.Nat.{ℕ, ◌≤◌, ◌<◌}
 use mathlib.Core.Path.{◌≡◌, refl, sym, ◌∙◌}
 use mathlib.Core.Bool.{true}
 use mathlib.Core.List.{List, [], ◌∷◌}
 use mathlib.Core.Option.{Option, none, some}
 use native.Mathlib.Omega.{arith}
-use lib.ListN.{length, take, drop}
+use lib.ListN.{length}
 use Rattle.source.specs.Text.{Str, Query, segments, ends_in_dot}
 use Rattle.source.specs.Types.{Trie, bind, namespaces, bindings, trie_empty}
 use Rattle.source.specs.Tries.{dflt, bind_option, names_find_exact, trie_find_exact, scope_of, included}
 use Rattle.source.specs.Plans.{host_of}
 use Rattle.source.proofs.Hosts.{host_of_step, included_host}
-use Rattle.text.proofs.Texts.{part_is}
-use Rattle.text_query.specs.Queries.{Segment}
-use Rattle.text_query.proofs.Segments.{first_segment, before_inside, segments_end}
+use Rattle.text_query.proofs.Segments.{first_segment, before_inside}
 use Rattle.memory.specs.Layout.{Which, Item, trieˢ, what}
 use Rattle.memory.specs.Read.{ReadTrie}
 use Rattle.memory.specs.declared.Trie as M
@@ -24,48 +22,6 @@ use Rattle.memory.proofs.Tries.{lists_seen, bindings_at, namespaces_at, bindings
 use Rattle.find_trie.proofs.Links.{scope_up}
 use Rattle.memory.specs.Sound.{At, Reads}
 use Rattle.memory.proofs.At.{no_link, at_of}
-
--- The walk stands at the trie of link, with the segments from at on before it, of which C holds.
-pub record Stands (ws txt : List ℕ) (w : Which) (query : Str) (root link at : ℕ)
-    (C : Trie (Item w) → Query → Type 0) : Type 0 where
-  pub inside : at ≤ length query
-  pub ends : ends_in_dot (drop at query) ≡ true
-  pub earlier : link ≤ root
-  pub here : At ws txt w trieˢ link
-  pub says : C (what w ws txt link trieˢ) (segments (drop at query))
-
-pub stands_first : {ws txt : List ℕ} {w : Which} {query : Str} {root : ℕ} (C : Trie (Item w) → Query → Type 0)
-    → ends_in_dot query ≡ true → At ws txt w trieˢ root
-    → C (what w ws txt root trieˢ) (segments query) → Stands ws txt w query root root 0 C
-stands_first C e t c = record { inside = omega arith; ends = e; earlier = omega arith; here = t; says = c }
-
-module _ {ws txt : List ℕ} {w : Which} {query : Str} {root link at : ℕ} {C : Trie (Item w) → Query → Type 0}
-    (g : Stands ws txt w query root link at C) where
-  -- One segment down.
-  pub stands_next : {n next : ℕ} (C' : Trie (Item w) → Query → Type 0) → Segment query at n
-      → Reads ws txt w link next (scope_of (namespaces (what w ws txt link trieˢ)) (take n (drop at query)))
-      → (C (what w ws txt link trieˢ) (take n (drop at query) ∷ segments (drop (at + n + 1) query))
-      → C' (scope_of (namespaces (what w ws txt link trieˢ)) (take n (drop at query)))
-      (segments (drop (at + n + 1) query)))
-      → Stands ws txt w query root next (at + n + 1) C'
-  stands_next C' s r f = record {
-    inside = omega (arith, s.inside);
-    ends = s.ends ∙ g.ends;
-    earlier = omega (arith, r.link.earlier, g.earlier);
-    here = at_of g.here trieˢ (omega arith) r.link;
-    says = rw r.says (f (rw s.splits at g.says));
-  }
-
-  -- No segment is left.
-  pub stands_last : length query ≤ at → C (what w ws txt link trieˢ) []
-  stands_last h = rw (segments_end query at h) at g.says
-
--- The scope of a segment, as the loops cut it.
-pub scope_next : {ws txt : List ℕ} {w : Which} {link at n next : ℕ} {p : M.Trie} {query : Str} → At ws txt w trieˢ link
-    → Segment query at n → ReadTrie ws link p
-    → Scope ws txt p.namespaces (take (at + n - at) (drop at query)) next
-    → Reads ws txt w link next (scope_of (namespaces (what w ws txt link trieˢ)) (take n (drop at query)))
-scope_next {w = w} {at = at} {n} {query = query} t y q h = scope_up t q _ (rw (part_is query at n) at (h w (namespaces_at t q)))
 
 -- The walk has come to the trie of link, with the segments of rest before it, of which C holds.
 pub record Walked (ws txt : List ℕ) (w : Which) (root link : ℕ) (rest : Query)

@@ -2,22 +2,13 @@
 // A trie is the link of its record, 0 for the empty one.
 #![tactic(auto)]
 
-ghost use Rattle.std.specs.Prelude.{◌≡◌, true, ◌*◌, ◌<◌, ◌≤◌, length, drop};
+ghost use Rattle.std.specs.Prelude.{◌≡◌, true, ◌*◌, ◌≤◌, length};
 ghost use Rattle.source.specs.Limits.{record_words};
 ghost use Rattle.source.specs.Text.{segments, ends_in_dot};
-ghost use Rattle.text_query.specs.Queries.{Segment};
 ghost use Rattle.find_list.specs.Names.{AnyList};
 ghost use Rattle.find_trie.specs.Tries.{AnyTrie, Scope, Included, FindsExact, NsInserts, LoadedModule};
 
 use memory::ModSymbol;
-
-// The length of the segment of `query` that begins at `at`.
-pub fn segment_at(query: &[u8], at: usize) -> usize
-    requires { (at < length query.now) × (ends_in_dot (drop at query.now) ≡ true) }
-    ensures { Segment query.now at result }
-{
-    text_query::segment_length(&query[at..])
-}
 
 // The trie that a list of namespaces holds at `s`, 0 for none.
 fn scope_of(words: &[u32], text: &[u8], namespaces: u32, s: &[u8]) -> u32
