@@ -34,7 +34,8 @@ refused_by (Err r) = some (number r)
 abbrev pub CompletesAs : (ask : Ask) (ws txt flat flat' out out' : List ℕ) (r : Result Listed Refusal)
     → C.Completed (Item (asked ask)) → Type 0
 CompletesAs ask ws txt flat flat' out out' r (C.listed lines entered) =
-    (r ≡ Ok (record { lines = length lines; entered = entered })) × Written (asked ask) ws txt flat flat' out out' 0 0 lines
+    (r ≡ Ok (record { lines = length lines; entered = entered }))
+    × Written (asked ask) ws txt flat flat' out out' 0 0 lines
 CompletesAs ask ws txt flat flat' out out' r (C.refused n) = (refused_by r ≡ some n) × (flat' ≡ flat) × (out' ≡ out)
 
 -- A completion on a root of a sound memory.

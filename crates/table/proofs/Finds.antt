@@ -17,7 +17,8 @@ use Rattle.std.specs.Prelude.{Option, Result, Err}
 use Rattle.table.proofs.Says.{says_same}
 
 module _ {ws txt : List ℕ} {tab : Table} {query : Str} where
-  pub finds_sound : {f : Result (Option LidSymbol) Refusal} → IsSound ws txt tab → name_found f ≡ look_up true (names_in ws txt tab) query
+  pub finds_sound : {f : Result (Option LidSymbol) Refusal} → IsSound ws txt tab
+      → name_found f ≡ look_up true (names_in ws txt tab) query
       → Finds ws txt tab query (record { table = tab; answer = f })
   finds_sound o e = record { table = refl; says = λ b h. rw (says_same _ b true h o) e }
 
@@ -26,7 +27,8 @@ module _ {ws txt : List ℕ} {tab : Table} {query : Str} where
   unfolding first_row argument_rows look_up
   finds_unsound o = record { table = refl; says = λ b h. rw (says_same _ b false h o) refl }
 
-  pub finds_module_sound : {f : Result (Option ModSymbol) Refusal} → IsSound ws txt tab → FindsModuleOn ws txt tab.header query f
+  pub finds_module_sound : {f : Result (Option ModSymbol) Refusal} → IsSound ws txt tab
+      → FindsModuleOn ws txt tab.header query f
       → FindsModule ws txt tab query (record { table = tab; answer = f })
   finds_module_sound o m = record { table = refl; says = λ b h. rw (says_same _ b true h o) m.says; inside = m.inside }
 

@@ -131,7 +131,12 @@ impl Table {
     }
 
     // Look-up of a module or namespace, in a sound memory.
-    pub fn find_module_sound(self, words: &[u32], text: &[u8], query: &[u8]) -> Answer<Option<ModSymbol>>
+    pub fn find_module_sound(
+        self,
+        words: &[u32],
+        text: &[u8],
+        query: &[u8],
+    ) -> Answer<Option<ModSymbol>>
         requires { IsSound words.now text.now self }
         ensures { FindsModule words.now text.now self query.now result }
     {

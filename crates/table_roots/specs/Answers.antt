@@ -61,6 +61,7 @@ pub record LookedUp (ws txt : List ℕ) (root : ℕ) (query : Str) (r : Result (
       → item_found w ws txt r ≡ look_up true (what w ws txt root trieˢ) query
 
 -- A look-up of a module or namespace, whose texts lie in the used text.
-pub record FindsModuleOn (ws txt : List ℕ) (h : Header) (query : Str) (r : Result (Option StoredSymbol) Refusal) : Type 0 where
+pub record FindsModuleOn (ws txt : List ℕ) (h : Header) (query : Str)
+    (r : Result (Option StoredSymbol) Refusal) : Type 0 where
   pub says : module_found txt r ≡ look_up true (what modules ws txt h.modules trieˢ) query
   pub inside : FoundInside (length (used_text txt h)) r
