@@ -1,4 +1,4 @@
-// Calls for tests and benchmarks outside Rattle: slices pass as a pointer and a length, a table as its four numbers.
+// Calls for tests and benchmarks outside Rattle: slices pass as a pointer and a length, a table as its four numbers, as tests/product declares them in C.
 // Each replies what crate table hands back.
 #![tactic(auto)]
 

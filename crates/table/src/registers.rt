@@ -1,4 +1,4 @@
-// Registrations under the source's names.
+// Registrations under the source's names, each by the two doors that docs/PROMISES.md names. What they ask differs, so that they are not one generic call.
 ghost use Rattle.std.specs.Prelude.{true, false};
 ghost use Rattle.source.specs.Calls.{name, include, opens, alias, module_path};
 ghost use Rattle.table.specs.Header.{IsSound};
