@@ -3,11 +3,9 @@
 // which is written from the requirements.
 #![tactic(auto)]
 
-use listing::Completed;
 use source::{ItemKind, KindFilter, LidSymbol};
 use std::io::{Print, Stdout};
-use table::{Registered, Registration, Table};
-use table_roots::Found;
+use table::{Answer, Table};
 
 // What cannot be written is missing in the output, which then is not as the file has it.
 fn say(out: Stdout, s: &[u8]) {
@@ -47,11 +45,10 @@ fn play_t(out: Stdout, script: &[u8]) {
 }
 
 // 0 for an accepted registration, else its refusal's number.
-fn code(r: Registration) -> u32 {
-    let a = r.answer;
-    match a {
-        Registered::Accepted => 0,
-        Registered::Refused(x) => u32::from(x),
+fn code(r: Answer<()>) -> u32 {
+    match r.answer {
+        Ok(()) => 0,
+        Err(x) => u32::from(x),
     }
 }
 
@@ -105,21 +102,18 @@ fn listed(
         budget: budget,
     };
     let l = t.complete(words, text, request, b"Live.off.", flat, pane);
-    let c = l.answer;
-    match c {
-        Completed::Listed(n, entered) => 0,
-        Completed::Refused(x) => u32::from(x),
+    match l.answer {
+        Ok(_) => 0,
+        Err(x) => u32::from(x),
     }
 }
 
 // 0 for an answer, else its refusal's number.
 fn looked(t: Table, words: &[u32], text: &[u8]) -> u32 {
     let f = t.find(words, text, b"Live.offset.");
-    let a = f.answer;
-    match a {
-        Found::Item(n) => 0,
-        Found::Nothing => 0,
-        Found::Refused(x) => u32::from(x),
+    match f.answer {
+        Ok(_) => 0,
+        Err(x) => u32::from(x),
     }
 }
 

@@ -23,25 +23,28 @@ use Rattle.table.specs.Header.{IsSound, table_in}
 use Rattle.refusals.specs.Refusals.{number}
 use Rattle.table.specs.Completions.{completion, Completes}
 use Rattle.table.specs.declared.Table.{Table}
-use Rattle.listing.specs.declared.Completed.{Completed}
-use Rattle.listing.specs.declared.Completed.TheVariants.{Listed, Refused}
-use Rattle.table.specs.declared.Listing.{Listing}
 use Rattle.console_questions.specs.Questions.{lines_text, completed_text}
 use Rattle.console_questions.specs.RowReplies.{RowsShown, shown_text}
 use Rattle.console_questions.proofs.RowReplies.{rows_text_is, rows_room_is}
+use Rattle.listing.specs.declared.Listed.{Listed}
+use Rattle.refusals.specs.declared.Refusal.{Refusal}
+use Rattle.table.specs.declared.Answer.{Answer}
+use Rattle.std.specs.Prelude.{Err, Ok, Result}
 
 -- What is written of a completion, and that it can be.
-pub record Tells (ask : Ask) (flat' out' : List ℕ) (r : Completed) (v : C.Completed (Item (asked ask))) : Type 0 where
+pub record Tells (ask : Ask) (flat' out' : List ℕ) (r : Result Listed Refusal)
+    (v : C.Completed (Item (asked ask))) : Type 0 where
   pub shown : RowsShown (asked ask) flat' out' r
   pub text_is : shown_text (asked ask) flat' out' r ≡ completed_text (asked ask) v
 
-tells_refused : (ask : Ask) (flat' out' : List ℕ) (n : ℕ) (r : Completed) → refused_by r ≡ some n
+tells_refused : (ask : Ask) (flat' out' : List ℕ) (n : ℕ) (r : Result Listed Refusal) → refused_by r ≡ some n
     → Tells ask flat' out' r (C.refused n)
-tells_refused ask flat' out' n (Listed lines entered) e = let z : ◌≡◌ {A = ℕ} 0 1 = cc in absurd (omega arith)
-tells_refused ask flat' out' n (Refused x) e = let z : number x ≡ n = cc in record { shown = tt; text_is = ap refused_reply z }
+tells_refused ask flat' out' n (Ok listed) e = let z : ◌≡◌ {A = ℕ} 0 1 = cc in absurd (omega arith)
+tells_refused ask flat' out' n (Err x) e = let z : number x ≡ n = cc in record { shown = tt; text_is = ap refused_reply z }
 
 module _ (ask : Ask) (ws txt flat flat' out out' : List ℕ) where
-  tells : (r : Completed) (v : C.Completed (Item (asked ask))) → CompletesAs ask ws txt flat flat' out out' r v
+  tells : (r : Result Listed Refusal) (v : C.Completed (Item (asked ask)))
+      → CompletesAs ask ws txt flat flat' out out' r v
       → Tells ask flat' out' r v
   tells r (C.listed lines entered) (e, w) =
       let rows : List (List ℕ) = words_from flat' 0 (length lines) in
@@ -67,7 +70,7 @@ module _ (ask : Ask) (ws txt flat flat' out out' : List ℕ) where
       })
   tells r (C.refused n) (e, w, o) = tells_refused ask flat' out' n r e
 
-pub completes_tells : {ws txt flat flat' out out' query : List ℕ} {tab : Table} {request : Request} {r : Listing}
+pub completes_tells : {ws txt flat flat' out out' query : List ℕ} {tab : Table} {request : Request} {r : Answer Listed}
     → IsSound ws txt tab → Completes ws txt tab request query flat flat' out out' r
     → Tells request.ask flat' out' r.answer
     (completion true (table_in ws txt tab) request.ask request.budget (output flat out) query)

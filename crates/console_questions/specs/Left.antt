@@ -13,8 +13,9 @@ use Rattle.listing.specs.Completes.{output}
 use Rattle.table.specs.Header.{table_in}
 use Rattle.table.specs.Completions.{completion, Completes}
 use Rattle.table.specs.declared.Table.{Table}
-use Rattle.table.specs.declared.Listing.{Listing}
 use Rattle.console_questions.specs.Questions.{budget, completed_text, asked_text}
+use Rattle.listing.specs.declared.Listed.{Listed}
+use Rattle.table.specs.declared.Answer.{Answer}
 
 -- Both are as they were.
 pub record OutputKept (flat flat' pane pane' : List ℕ) : Type 0 where
@@ -24,7 +25,7 @@ pub record OutputKept (flat flat' pane pane' : List ℕ) : Type 0 where
 -- They are as a completion leaves them: listed, with its lines from the start on; refused, as they were.
 pub record OutputListed (ws txt : List ℕ) (tab : Table) (a : Ask) (q : Str)
     (flat flat' pane pane' : List ℕ) : Type 0 where
-  pub listing : Listing
+  pub listing : Answer Listed
   pub completes : Completes ws txt tab (record { ask = a; budget = budget }) q flat flat' pane pane' listing
 
 -- What a question leaves of them.

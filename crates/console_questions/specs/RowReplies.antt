@@ -1,5 +1,5 @@
 -- The replies of rows that stand in the lent output (crate listing_row), and room for them.
-use Rattle.std.specs.Prelude.{ℕ, ◌+◌, ◌*◌, ◌/◌, ◌≤◌, List, [], ◌∷◌, length}
+use Rattle.std.specs.Prelude.{ℕ, ◌+◌, ◌*◌, ◌/◌, ◌≤◌, List, [], ◌∷◌, length, Err, Ok, Result}
 use Rattle.source.specs.Calls.{signed_word}
 use Rattle.source.specs.Shared.{Allˡ}
 use Rattle.memory.specs.Layout.{Which}
@@ -15,8 +15,8 @@ use Rattle.listing_row.specs.declared.RowItem.{RowItem}
 use Rattle.listing_row.specs.declared.RowItem.TheVariants.{Name, Symbol}
 use Rattle.listing_row.specs.declared.Row.{Row}
 use Rattle.refusals.specs.Refusals.{number}
-use Rattle.listing.specs.declared.Completed.{Completed}
-use Rattle.listing.specs.declared.Completed.TheVariants.{Listed, Refused}
+use Rattle.listing.specs.declared.Listed.{Listed}
+use Rattle.refusals.specs.declared.Refusal.{Refusal}
 
 -- ---- One row
 
@@ -56,11 +56,12 @@ abbrev pub room : (flat pane : List ℕ) → ℕ
 room flat pane = length flat / line_bytes * reply_room + length pane + reply_room
 
 -- The lines of a completion stand in flat and pane.
-abbrev pub RowsShown : (w : Which) (flat pane : List ℕ) → Completed → Type 0
-RowsShown w flat pane (Listed n entered) =
-    RowsIn w flat pane n × (rows_room w (words_from flat 0 n) + reply_room ≤ room flat pane)
-RowsShown w flat pane (Refused x) = Unit {0}
+abbrev pub RowsShown : (w : Which) (flat pane : List ℕ) → Result Listed Refusal → Type 0
+RowsShown w flat pane (Ok listed) =
+    RowsIn w flat pane listed.lines × (rows_room w (words_from flat 0 listed.lines) + reply_room ≤ room flat pane)
+RowsShown w flat pane (Err x) = Unit {0}
 
-abbrev pub shown_text : (w : Which) (flat pane : List ℕ) → Completed → Str
-shown_text w flat pane (Listed n entered) = rows_text w pane (words_from flat 0 n) · end_reply n entered
-shown_text w flat pane (Refused x) = refused_reply (number x)
+abbrev pub shown_text : (w : Which) (flat pane : List ℕ) → Result Listed Refusal → Str
+shown_text w flat pane (Ok listed) =
+    rows_text w pane (words_from flat 0 listed.lines) · end_reply listed.lines listed.entered
+shown_text w flat pane (Err x) = refused_reply (number x)

@@ -12,23 +12,23 @@ ghost use Rattle.console_questions.specs.Questions.{found_text};
 ghost use Rattle.console_questions.specs.RowReplies.{item_shown, row_room, row_text, RowsIn, rows_room, rows_text, room, RowsShown, shown_text};
 ghost use Rattle.console_questions.specs.Left.{CompletedLine, AskedLine};
 
-use listing::Completed;
+use listing::Listed;
 use listing_row::{Row, RowItem};
 use memory::ModSymbol;
+use refusals::Refusal;
 use script_replies::ItemReply;
-use source::KindFilter;
+use source::{KindFilter, LidSymbol};
 use table::Table;
-use table_roots::Found;
 
 // Writes the reply to a look-up.
-fn put_found(reply: &mut [u8], at: usize, f: Found) -> usize
+fn put_found(reply: &mut [u8], at: usize, f: Result<Option<LidSymbol>, Refusal>) -> usize
     requires { at + reply_room ≤ length reply.old }
     ensures { Laid reply.old reply.new at result (found_text (name_found f)) }
 {
     match f {
-        Found::Item(n) => script_replies::put_found(reply, at, n),
-        Found::Nothing => script_replies::put_none(reply, at),
-        Found::Refused(x) => {
+        Ok(Some(n)) => script_replies::put_found(reply, at, n),
+        Ok(None) => script_replies::put_none(reply, at),
+        Err(x) => {
             let n = u32::from(x);
             script_replies::put_refused(reply, at, n)
         }
@@ -97,7 +97,7 @@ fn put_completed(
     flat: &[u8],
     pane: &[u8],
     ask: listing_ask::Ask,
-    c: Completed,
+    c: Result<Listed, Refusal>,
     reply: &mut [u8],
     at: usize,
 ) -> usize
@@ -106,11 +106,11 @@ fn put_completed(
     ensures { Laid reply.old reply.new at result (shown_text (asked ask) flat.now pane.now c) }
 {
     match c {
-        Completed::Listed(lines, entered) => {
-            let e = put_rows(flat, pane, ask, lines as usize, reply, at);
-            script_replies::put_end(reply, e, lines, entered)
+        Ok(l) => {
+            let e = put_rows(flat, pane, ask, l.lines as usize, reply, at);
+            script_replies::put_end(reply, e, l.lines, l.entered)
         }
-        Completed::Refused(x) => {
+        Err(x) => {
             let n = u32::from(x);
             script_replies::put_refused(reply, at, n)
         }

@@ -14,19 +14,21 @@ use Rattle.refusals.specs.Refusals.{number}
 use Rattle.source.proofs.Outside.{outside_none}
 use Rattle.table.specs.Registrations.{refusal_of, Accepts, Unchanged, AnswersAs, Answers}
 use Rattle.table.specs.declared.Table.{Table}
-use Rattle.table.specs.declared.Registered.{Registered}
-use Rattle.table.specs.declared.Registered.TheVariants.{Accepted, Refused}
-use Rattle.table.specs.declared.Registration.{Registration}
 use Rattle.console_registrations.specs.Registers.{registration, Leaves, Registers, registered_text, Finished}
 use Rattle.console_registrations.specs.declared.Done.{Done}
+use Rattle.refusals.specs.declared.Refusal.{Refusal}
+use Rattle.table.specs.declared.Answer.{Answer}
+use Rattle.std.specs.Prelude.{Err, Ok, Result}
 
-text_accepted : (records : ℕ) (r : Registered) → refusal_of r ≡ none → registered_text records r ≡ ok_reply records
-text_accepted records Accepted e = refl
-text_accepted records (Refused x) e = let z : ◌≡◌ {A = ℕ} 0 1 = cc in absurd (omega arith)
+text_accepted : (records : ℕ) (r : Result Unit Refusal) → refusal_of r ≡ none
+    → registered_text records r ≡ ok_reply records
+text_accepted records (Ok _) e = refl
+text_accepted records (Err x) e = let z : ◌≡◌ {A = ℕ} 0 1 = cc in absurd (omega arith)
 
-text_refused : (records n : ℕ) (r : Registered) → refusal_of r ≡ some n → registered_text records r ≡ refused_reply n
-text_refused records n Accepted e = let z : ◌≡◌ {A = ℕ} 0 1 = cc in absurd (omega arith)
-text_refused records n (Refused x) e = let z : number x ≡ n = cc in ap refused_reply z
+text_refused : (records n : ℕ) (r : Result Unit Refusal) → refusal_of r ≡ some n
+    → registered_text records r ≡ refused_reply n
+text_refused records n (Ok _) e = let z : ◌≡◌ {A = ℕ} 0 1 = cc in absurd (omega arith)
+text_refused records n (Err x) e = let z : number x ≡ n = cc in ap refused_reply z
 
 -- What is used never shrinks.
 Grows : State → C.Registered → Type 0
@@ -41,7 +43,7 @@ register_grows k σ c = go (first_row (registration_rows true k σ c))
     go none = (omega arith, omega arith)
     go (some n) = tt
 
-module _ {ws txt ws' txt' reply reply' : List ℕ} {tab : Table} {at : ℕ} {r : Registration} {a : Done}
+module _ {ws txt ws' txt' reply reply' : List ℕ} {tab : Table} {at : ℕ} {r : Answer Unit} {a : Done}
     (f : Finished reply reply' at r a) where
   leaves : (c : Call) → IsSound ws txt tab → (v : C.Registered) → Grows (state ws txt tab) v
       → AnswersAs v ws txt ws' txt' tab c r

@@ -1,5 +1,5 @@
 -- The line of a registration: what it replies and what it leaves.
-use Rattle.std.specs.Prelude.{ℕ, ◌*◌, ◌≤◌, ◌≡◌, true, List}
+use Rattle.std.specs.Prelude.{ℕ, ◌*◌, ◌≤◌, ◌≡◌, true, List, Err, Ok, Result}
 use Rattle.source.specs.Limits.{record_words}
 use Rattle.source.specs.Calls as C
 use Rattle.source.specs.Calls.{State, Call, register}
@@ -11,10 +11,9 @@ use Rattle.refusals.specs.Refusals.{number}
 use Rattle.source.specs.Lent.{Outside}
 use Rattle.table.specs.Registrations.{Accepts, Unchanged}
 use Rattle.table.specs.declared.Table.{Table}
-use Rattle.table.specs.declared.Registered.{Registered}
-use Rattle.table.specs.declared.Registered.TheVariants.{Accepted, Refused}
-use Rattle.table.specs.declared.Registration.{Registration}
 use Rattle.console_registrations.specs.declared.Done.{Done}
+use Rattle.refusals.specs.declared.Refusal.{Refusal}
+use Rattle.table.specs.declared.Answer.{Answer}
 
 -- The reply to a line, with the table after it.
 pub record Outcome : Type 0 where
@@ -49,11 +48,11 @@ pub record Registers (ws txt ws' txt' : List ℕ) (tab : Table) (c : Call) (repl
 
 -- ---- From the answer of the call
 
-abbrev pub registered_text : (records : ℕ) → Registered → Str
-registered_text records Accepted = ok_reply records
-registered_text records (Refused x) = refused_reply (number x)
+abbrev pub registered_text : (records : ℕ) → Result Unit Refusal → Str
+registered_text records (Ok _) = ok_reply records
+registered_text records (Err x) = refused_reply (number x)
 
 -- The reply to a registration has been written.
-pub record Finished (reply reply' : List ℕ) (at : ℕ) (r : Registration) (a : Done) : Type 0 where
+pub record Finished (reply reply' : List ℕ) (at : ℕ) (r : Answer Unit) (a : Done) : Type 0 where
   pub laid : Laid reply reply' at a.end (registered_text r.table.header.records r.answer)
   pub table_is : a.table ≡ r.table

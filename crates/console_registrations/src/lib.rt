@@ -8,8 +8,9 @@ ghost use Rattle.script_replies.specs.Replies.{reply_room};
 ghost use Rattle.table.specs.Header.{IsSound};
 ghost use Rattle.console_registrations.specs.Registers.{registered_text, Finished, Registers};
 
+use refusals::Refusal;
 use register_kind::Entry;
-use table::{Registered, Registration, Table};
+use table::{Answer, Table};
 
 // The table after the lines so far, and where their replies end.
 #[derive(Clone, Copy)]
@@ -19,13 +20,13 @@ pub struct Done {
 }
 
 // Writes the reply to a registration.
-fn put_registered(reply: &mut [u8], at: usize, records: u32, r: Registered) -> usize
+fn put_registered(reply: &mut [u8], at: usize, records: u32, r: Result<(), Refusal>) -> usize
     requires { at + reply_room ≤ length reply.old }
     ensures { Laid reply.old reply.new at result (registered_text records r) }
 {
     match r {
-        Registered::Accepted => script_replies::put_ok(reply, at, records),
-        Registered::Refused(x) => {
+        Ok(()) => script_replies::put_ok(reply, at, records),
+        Err(x) => {
             let code = u32::from(x);
             script_replies::put_refused(reply, at, code)
         }
@@ -33,7 +34,7 @@ fn put_registered(reply: &mut [u8], at: usize, records: u32, r: Registered) -> u
 }
 
 // The answer to a registration, with its reply written.
-fn finish(reply: &mut [u8], at: usize, r: Registration) -> Done
+fn finish(reply: &mut [u8], at: usize, r: Answer<()>) -> Done
     requires { at + reply_room ≤ length reply.old }
     ensures { Finished reply.old reply.new at r result }
 {

@@ -40,8 +40,9 @@ use Rattle.listing_start.specs.Outset.{root_path, nothing_yet, start_run}
 use Rattle.listing_start.proofs.Outset.{root_matching}
 use Rattle.refusals.specs.declared.Refusal.TheVariants.{Spent, Lines}
 use Rattle.listing.specs.Completes.{output, lines_of, CompletesAs, CompletesOn}
-use Rattle.listing.specs.declared.Completed.{Completed}
-use Rattle.listing.specs.declared.Completed.TheVariants.{Listed, Refused}
+use Rattle.refusals.specs.declared.Refusal.{Refusal}
+use Rattle.listing.specs.declared.Listed.{Listed}
+use Rattle.std.specs.Prelude.{Result, Ok, Err}
 use Rattle.listing_trie.proofs.Listed.{no_label}
 use Rattle.memory.specs.Sound.{At}
 
@@ -187,7 +188,7 @@ output_rows budget out lines entered =
     (9 when ltb budget entered) ∷ (10 when ltb out.lines (length lines) || ltb out.text (length (output_text lines))) ∷ []
 
 module _ (ws txt : List ℕ) (request : Request) (root : ℕ) (query : Str) (flat flat' out out' : List ℕ)
-    (r : Completed) where
+    (r : Result Listed Refusal) where
   -- What rows 9 and 10 say.
   abbrev ByRows : Type 0
   ByRows = CompletesAs request.ask ws txt flat flat' out out' r
@@ -206,7 +207,7 @@ module _ {ws txt : List ℕ} {request : Request} {root : ℕ} {query : Str}
     (s : Shows lim (tries ws txt request.ask root query) (length (listed ws txt request.ask root query))
     (length (output_text (listed ws txt request.ask root query))) a) where
   pub completes_spent : lim.budget < a.entered → flat' ≡ flat → out' ≡ out
-      → CompletesOn ws txt request root query flat flat' out out' (Refused Spent)
+      → CompletesOn ws txt request root query flat flat' out out' (Err Spent)
   unfolding first_row
   completes_spent h f o = by_rows ws txt request root query flat flat' out out' _ e
       (rw (lt-ltb request.budget (tries ws txt request.ask root query) (omega (arith, passed s h, set.budget_is))) (refl, f, o))
@@ -214,13 +215,13 @@ module _ {ws txt : List ℕ} {request : Request} {root : ℕ} {query : Str}
   module _ (h : a.entered ≤ lim.budget) where
     -- Lines or bytes past what is lent.
     pub completes_past : Past lim a.lines a.bytes → flat' ≡ flat → out' ≡ out
-        → CompletesOn ws txt request root query flat flat' out out' (Refused Lines)
+        → CompletesOn ws txt request root query flat flat' out out' (Err Lines)
     unfolding first_row
     completes_past p f o = by_rows ws txt request root query flat flat' out out' _ e (go (tells_past lim a p (s.counted (within s h))))
       where
         go : Past lim (length (listed ws txt request.ask root query))
             (length (output_text (listed ws txt request.ask root query)))
-            → ByRows ws txt request root query flat flat' out out' (Refused Lines)
+            → ByRows ws txt request root query flat flat' out out' (Err Lines)
         go (inl k) = rw (
           affordable set s h,
           lt-ltb (min (length flat / line_bytes) 4294967295) (length (listed ws txt request.ask root query)) (omega (arith, set.lines_are)),
@@ -235,7 +236,7 @@ module _ {ws txt : List ℕ} {request : Request} {root : ℕ} {query : Str}
 
     pub completes_listed : a.lines ≤ lim.lines → a.bytes ≤ lim.bytes
         → Written (asked request.ask) ws txt flat flat' out out' 0 0 (listed ws txt request.ask root query)
-        → CompletesOn ws txt request root query flat flat' out out' (Listed a.lines a.entered)
+        → CompletesOn ws txt request root query flat flat' out out' (Ok (record { lines = a.lines; entered = a.entered }))
     unfolding first_row
     completes_listed l b w =
         let x = exact s h l b in

@@ -13,11 +13,11 @@ use listing_ask::Request;
 use listing_output::{Limits, Want};
 use refusals::Refusal;
 
-// The answer of a completion: how many lines and tries entered, or a refusal.
+// A completion that lists: how many lines, and how many tries were entered.
 #[derive(Clone, Copy)]
-pub enum Completed {
-    Listed(u32, u32),
-    Refused(Refusal),
+pub struct Listed {
+    pub lines: u32,
+    pub entered: u32,
 }
 
 // Completion on a root: counted first, so that a refusal writes nothing, then written. At the root no element was matched: -1.
@@ -29,7 +29,7 @@ pub fn complete(
     query: &[u8],
     flat: &mut [u8],
     out: &mut [u8],
-) -> Completed
+) -> Result<Listed, Refusal>
     requires at { At words.now text.now (asked request.ask) trieˢ root }
     requires query_value { first_row (argument_rows true (a_completion query.now ∷ [])) ≡ none }
     ensures { CompletesOn words.now text.now request root query.now
@@ -59,15 +59,18 @@ pub fn complete(
         &mut out[0..0],
     );
     if limits.budget < entered {
-        return Completed::Refused(Refusal::Spent);
+        return Err(Refusal::Spent);
     }
     if lines < run.tally.lines {
-        return Completed::Refused(Refusal::Lines);
+        return Err(Refusal::Lines);
     }
     if bytes < run.tally.bytes {
-        return Completed::Refused(Refusal::Lines);
+        return Err(Refusal::Lines);
     }
     let mut again = listing_start::start(limits);
     listing_trie::list_trie(words, text, query, want, root, &mut again, flat, out);
-    Completed::Listed(run.tally.lines as u32, entered as u32)
+    Ok(Listed {
+        lines: run.tally.lines as u32,
+        entered: entered as u32,
+    })
 }

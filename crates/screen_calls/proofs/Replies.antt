@@ -15,7 +15,6 @@ use Rattle.source.specs.Lent.{Outside}
 use Rattle.table.specs.Header.{IsSound, state, lent}
 use Rattle.table.specs.Registrations.{refusal_of, AnswersAs, Answers}
 use Rattle.table.specs.declared.Table.{Table}
-use Rattle.table.specs.declared.Registration.{Registration}
 use Rattle.table.proofs.Says.{says_same}
 use Rattle.table.proofs.Answers.{register_unsound}
 use Rattle.memory_bytes.specs.Bytes.{Stored}
@@ -25,6 +24,7 @@ use Rattle.screen_calls.specs.Memory.{table_at, SoundBytes}
 use Rattle.screen_calls.specs.Replies.{flag_for, chosen, unchosen, answer_to, RepliesAs, Replies}
 use Rattle.memory_bytes.proofs.Bytes.{read_back}
 use Rattle.screen_calls.proofs.Held.{Held, says_memory, says_unsound}
+use Rattle.table.specs.declared.Answer.{Answer}
 
 answer_unsound : (loan : Lent) (σ : State) (c : Option Call) → answer_to false loan σ c ≡ C.refused 1
 answer_unsound loan σ (some c) = register_unsound loan σ c
@@ -69,7 +69,7 @@ module _ {A : Type 0} {st bs txt st' bs' txt' : List ℕ} {r : ℕ} (f : A → C
 -- ---- A call, by crate table's answer
 
 -- The records of an accepted call fit the words lent.
-module _ (ws txt ws' txt' : List ℕ) (tab : Table) (c : Call) (r : Registration)
+module _ (ws txt ws' txt' : List ℕ) (tab : Table) (c : Call) (r : Answer Unit)
     (taken : refusal_of r.answer ≡ none) where
   fit_as : (x : C.Registered) → AnswersAs x ws txt ws' txt' tab c r → r.table.header.records * 12 ≤ length ws
   fit_as (C.accepted s) a = omega (arith, a.1.sound.right.records_fit, a.1.words.size)
@@ -78,7 +78,7 @@ module _ (ws txt ws' txt' : List ℕ) (tab : Table) (c : Call) (r : Registration
 by_bytes : (n : ℕ) → n * 12 * 4 ≡ n * 48
 by_bytes n = omega arith
 
-module _ {st bs txt m ws txt' : List ℕ} {tab : Table} {c : Call} {r : Registration} (h : Held st bs m tab)
+module _ {st bs txt m ws txt' : List ℕ} {tab : Table} {c : Call} {r : Answer Unit} (h : Held st bs m tab)
     (sound : IsSound m txt tab) (a : Answers true m txt ws txt' tab c r) where
   accepted_fits : refusal_of r.answer ≡ none → r.table.header.records * 12 ≤ length (words_in bs)
   accepted_fits taken = rw h.lent at (fit_as m txt ws txt' tab c r taken (register true (lent m txt) (state m txt tab) c) a.says)

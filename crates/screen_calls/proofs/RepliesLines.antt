@@ -18,9 +18,6 @@ use Rattle.listing.specs.Completes.{output, CompletesAs}
 use Rattle.table.specs.Header.{table_in}
 use Rattle.table.specs.Completions.{completion, Completes}
 use Rattle.table.specs.declared.Table.{Table}
-use Rattle.listing.specs.declared.Completed.{Completed}
-use Rattle.listing.specs.declared.Completed.TheVariants.{Listed, Refused}
-use Rattle.table.specs.declared.Listing.{Listing}
 use Rattle.screen_replies.specs.Filters.{is_asked}
 use Rattle.screen_replies.proofs.Filters.{asked_none}
 use Rattle.screen_replies.specs.Replies.{no_lines, lines_reply}
@@ -29,16 +26,21 @@ use Rattle.screen_calls.specs.Memory.{SoundBytes}
 use Rattle.screen_calls.specs.Replies.{RepliesAs, unchosen, Replies}
 use Rattle.screen_calls.specs.Completions.{ListsAs, unasked, Refuses, RepliesLines}
 use Rattle.screen_calls.proofs.Held.{Held, says_memory, says_unsound}
+use Rattle.listing.specs.declared.Listed.{Listed}
+use Rattle.refusals.specs.declared.Refusal.{Refusal}
+use Rattle.table.specs.declared.Answer.{Answer}
+use Rattle.std.specs.Prelude.{Err, Ok, Result}
 
 -- ---- By crate table's answer
 
 module _ (ask : Ask) (m txt ls ls' out out' : List ℕ) where
-  refused_as : (r : Completed) (n : ℕ) → CompletesAs ask m txt ls ls' out out' r (C.refused n)
+  refused_as : (r : Result Listed Refusal) (n : ℕ) → CompletesAs ask m txt ls ls' out out' r (C.refused n)
       → ListsAs ask m txt ls ls' out out' (lines_reply r) (C.refused n)
-  refused_as (Listed k e) n a = absurd (none-ne-some n a.0)
-  refused_as (Refused x) n a = record { reply = let e = a.0 in cc; lines = a.1; text = a.2 }
+  refused_as (Ok listed) n a = absurd (none-ne-some n a.0)
+  refused_as (Err x) n a = record { reply = let e = a.0 in cc; lines = a.1; text = a.2 }
 
-  replied_as : (r : Completed) (x : C.Completed (Item (asked ask))) → CompletesAs ask m txt ls ls' out out' r x
+  replied_as : (r : Result Listed Refusal) (x : C.Completed (Item (asked ask)))
+      → CompletesAs ask m txt ls ls' out out' r x
       → ListsAs ask m txt ls ls' out out' (lines_reply r) x
   replied_as r (C.listed lines entered) a = record { reply = ap lines_reply a.0; written = a.1 }
   replied_as r (C.refused n) a = refused_as r n a
@@ -63,7 +65,7 @@ module _ {st bs txt : List ℕ} {query : Str} {ls out : List ℕ} where
     says = λ b h. rw (says_unsound b e h, completion_unsound _ request.ask _ _ _) (record { reply = p; lines = refl; text = refl });
   }
 
-  pub lines_replied : {m ls' out' : List ℕ} {tab : Table} {request : Request} (r : Listing) {c : CompleteReply}
+  pub lines_replied : {m ls' out' : List ℕ} {tab : Table} {request : Request} (r : Answer Listed) {c : CompleteReply}
       → Held st bs m tab
       → Completes m txt tab request query ls ls' out out' r → c ≡ lines_reply r.answer
       → RepliesLines st bs txt (some request.ask) query request.budget ls ls' out out' c

@@ -1,5 +1,5 @@
 -- What the exported calls reply, and what they leave of the bytes lent.
-use Rattle.std.specs.Prelude.{ℕ, zero, suc, ◌*◌, ◌≡◌, Bool, true, false, List, length}
+use Rattle.std.specs.Prelude.{ℕ, zero, suc, ◌*◌, ◌≡◌, Bool, true, false, List, length, Option as Maybe, Result}
 use Rattle.std.proofs.Math.Option.{Option, none, some}
 use Rattle.source.specs.Text.{Str}
 use Rattle.source.specs.Table as S
@@ -12,12 +12,13 @@ use Rattle.table.specs.Header.{state, lent, names_in, modules_in}
 use Rattle.table_roots.specs.Answers.{module_found, FoundInside}
 use Rattle.source.specs.Lent.{Outside}
 use Rattle.table.specs.Registrations.{Accepts}
-use Rattle.table_roots.specs.declared.FoundModule.{FoundModule}
 use Rattle.screen_replies.specs.Replies.{name_reply, module_reply}
 use Rattle.screen_replies.specs.declared.NameReply.{NameReply}
 use Rattle.screen_replies.specs.declared.ModuleReply.{ModuleReply}
 use Rattle.screen_memory.specs.Memory.{state_bytes, record_bytes, header_in, words_in}
 use Rattle.screen_calls.specs.Memory.{table_at, SoundBytes}
+use Rattle.memory.specs.declared.ModSymbol.{ModSymbol}
+use Rattle.refusals.specs.declared.Refusal.{Refusal}
 
 -- ---- Registrations
 
@@ -76,7 +77,7 @@ pub record RepliesName (st bs txt : List ℕ) (query : Str) (r : NameReply) : Ty
 
 -- The reply r says the answer a, its texts being spans of the lent text that lie in the used text.
 pub record SaysModule (txt : List ℕ) (h : Header) (a : C.Found S.ModSymbol) (r : ModuleReply) : Type 0 where
-  pub found : FoundModule
+  pub found : Result (Maybe ModSymbol) Refusal
   pub reply : r ≡ module_reply found
   pub says : module_found txt found ≡ a
   pub inside : FoundInside (length (used_text txt h)) found

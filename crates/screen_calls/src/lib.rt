@@ -16,7 +16,7 @@ ghost use Rattle.screen_calls.specs.Replies.{Replies, RepliesName, RepliesModule
 use listing_ask::Request;
 use register_kind::Entry;
 use screen_replies::{CompleteReply, ModuleReply, NameReply, SharedReply};
-use table::{Registered, Table};
+use table::Table;
 
 // The table that a state spells.
 fn table_of(state: &[u8]) -> Table
@@ -54,11 +54,11 @@ fn enter(
     let h = r.table;
     let a = r.answer;
     match a {
-        Registered::Accepted => {
+        Ok(()) => {
             screen_memory::save(state, words, memory, t.header.records, h.header);
             0
         }
-        Registered::Refused(x) => u32::from(x),
+        Err(x) => u32::from(x),
     }
 }
 

@@ -20,11 +20,10 @@ use Rattle.memory.specs.declared.Span.{Span}
 use Rattle.memory.specs.declared.ModSymbol.{ModSymbol}
 use Rattle.memory.specs.declared.ModSymbol.TheVariants.{Module, Namespace}
 use Rattle.table_roots.specs.Answers.{module_found}
-use Rattle.table_roots.specs.declared.FoundModule.{FoundModule}
-use Rattle.table_roots.specs.declared.FoundModule.TheVariants.{Symbol, Nothing, Refused}
 use Rattle.screen_replies.specs.Replies.{name_reply, flag, symbol_reply, module_reply}
 use Rattle.screen_replies.specs.declared.NameReply.{NameReply}
 use Rattle.screen_replies.specs.declared.ModuleReply.{ModuleReply}
+use Rattle.std.specs.Prelude.{Err, None, Ok, Option, Result, Some}
 
 -- ---- Names
 kind_number_is : (x y : ItemKind) → kind_number x ≡ kind_number y → x ≡ y
@@ -81,17 +80,17 @@ symbol_answer : (symbol : ModSymbol) → (symbol_reply symbol).answer ≡ 0
 symbol_answer (Module n p l) = refl
 symbol_answer (Namespace n l) = refl
 
-pub module_reply_is : (txt : List ℕ) (g h : FoundModule) → module_reply g ≡ module_reply h
+pub module_reply_is : (txt : List ℕ) (g h : Result (Option ModSymbol) Refusal) → module_reply g ≡ module_reply h
     → NotRefused (module_found txt g)
     → ((n : ℕ) → module_found txt h ≡ C.refused n → (0 < n) × (n ≤ 10)) → module_found txt g ≡ module_found txt h
-module_reply_is txt (Symbol x) (Symbol y) e ok k = ap (λ s. C.found (symbol_of txt s)) (symbol_reply_is x y e)
-module_reply_is txt (Symbol x) Nothing e ok k = absurd (omega (arith, symbol_answer x, ap (λ (r : ModuleReply). r.answer) e))
-module_reply_is txt (Symbol x) (Refused n) e ok k =
+module_reply_is txt (Ok (Some x)) (Ok (Some y)) e ok k = ap (λ s. C.found (symbol_of txt s)) (symbol_reply_is x y e)
+module_reply_is txt (Ok (Some x)) (Ok None) e ok k = absurd (omega (arith, symbol_answer x, ap (λ (r : ModuleReply). r.answer) e))
+module_reply_is txt (Ok (Some x)) (Err n) e ok k =
     absurd (omega (arith, symbol_answer x, ap (λ (r : ModuleReply). r.answer) e, (k (number n) refl).0))
-module_reply_is txt Nothing (Symbol y) e ok k = absurd (omega (arith, symbol_answer y, ap (λ (r : ModuleReply). r.answer) e))
-module_reply_is txt Nothing Nothing e ok k = refl
-module_reply_is txt Nothing (Refused n) e ok k = absurd (omega (arith, ap (λ (r : ModuleReply). r.answer) e, (k (number n) refl).1))
-module_reply_is txt (Refused m) h e ok k = absurd ok
+module_reply_is txt (Ok None) (Ok (Some y)) e ok k = absurd (omega (arith, symbol_answer y, ap (λ (r : ModuleReply). r.answer) e))
+module_reply_is txt (Ok None) (Ok None) e ok k = refl
+module_reply_is txt (Ok None) (Err n) e ok k = absurd (omega (arith, ap (λ (r : ModuleReply). r.answer) e, (k (number n) refl).1))
+module_reply_is txt (Err m) h e ok k = absurd ok
 
 -- A refusal has a number.
 number_some : (x : Refusal) → number x ≡ 0 → ⊥
@@ -107,11 +106,12 @@ number_some Spent e = omega (arith, e)
 number_some Lines e = omega (arith, e)
 
 -- A reply that says a module or namespace says no refusal.
-pub module_reply_found : (txt : List ℕ) (g h : FoundModule) {y : S.ModSymbol} → module_reply g ≡ module_reply h
+pub module_reply_found : (txt : List ℕ) (g h : Result (Option ModSymbol) Refusal) {y : S.ModSymbol}
+    → module_reply g ≡ module_reply h
     → module_found txt h ≡ C.found y → NotRefused (module_found txt g)
-module_reply_found txt (Symbol x) h e f = tt
-module_reply_found txt Nothing h e f = tt
-module_reply_found txt (Refused m) (Symbol s) e f =
+module_reply_found txt (Ok (Some x)) h e f = tt
+module_reply_found txt (Ok None) h e f = tt
+module_reply_found txt (Err m) (Ok (Some s)) e f =
     absurd (number_some m (ap (λ (r : ModuleReply). r.answer) e ∙ symbol_answer s))
-module_reply_found txt (Refused m) Nothing e f = let z : ◌≡◌ {A = ℕ} 0 1 = cc in absurd (omega arith)
-module_reply_found txt (Refused m) (Refused n) e f = let z : ◌≡◌ {A = ℕ} 0 1 = cc in absurd (omega arith)
+module_reply_found txt (Err m) (Ok None) e f = let z : ◌≡◌ {A = ℕ} 0 1 = cc in absurd (omega arith)
+module_reply_found txt (Err m) (Err n) e f = let z : ◌≡◌ {A = ℕ} 0 1 = cc in absurd (omega arith)

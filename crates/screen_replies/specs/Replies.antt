@@ -1,19 +1,17 @@
 -- Replies as numbers, by what crate table hands back.
-use Rattle.std.specs.Prelude.{ℕ, Bool, true, false}
+use Rattle.std.specs.Prelude.{ℕ, Bool, true, false, Err, None, Ok, Option, Result, Some}
 use Rattle.source.specs.Items.{kind_number}
 use Rattle.source.specs.Calls as C
 use Rattle.source.specs.declared.LidSymbol.{LidSymbol}
 use Rattle.refusals.specs.Refusals.{number}
 use Rattle.memory.specs.declared.ModSymbol.{ModSymbol}
 use Rattle.memory.specs.declared.ModSymbol.TheVariants.{Module, Namespace}
-use Rattle.table_roots.specs.declared.FoundModule.{FoundModule}
-use Rattle.table_roots.specs.declared.FoundModule.TheVariants.{Symbol, Nothing, Refused}
-use Rattle.listing.specs.declared.Completed.{Completed}
-use Rattle.listing.specs.declared.Completed.TheVariants.{Listed, Refused as Not-listed}
 use Rattle.screen_replies.specs.declared.NameReply.{NameReply}
 use Rattle.screen_replies.specs.declared.ModuleReply.{ModuleReply}
 use Rattle.screen_replies.specs.declared.CompleteReply.{CompleteReply}
 use Rattle.screen_replies.specs.declared.SharedReply.{SharedReply}
+use Rattle.listing.specs.declared.Listed.{Listed}
+use Rattle.refusals.specs.declared.Refusal.{Refusal}
 
 -- ---- Look-ups
 
@@ -61,10 +59,10 @@ symbol_reply (Namespace name loaded) =
     }
 
 -- The reply to a look-up of a module or namespace: 0 with its symbol, no-answer, else the number of the refusal.
-abbrev pub module_reply : FoundModule → ModuleReply
-module_reply (Symbol symbol) = symbol_reply symbol
-module_reply Nothing = no_module no_answer
-module_reply (Refused x) = no_module (number x)
+abbrev pub module_reply : Result (Option ModSymbol) Refusal → ModuleReply
+module_reply (Ok (Some symbol)) = symbol_reply symbol
+module_reply (Ok None) = no_module no_answer
+module_reply (Err x) = no_module (number x)
 
 -- ---- Completions
 
@@ -73,9 +71,9 @@ abbrev pub no_lines : ℕ → CompleteReply
 no_lines n = record { answer = n; lines = 0; entered = 0 }
 
 -- The reply of crate table's answer.
-abbrev pub lines_reply : Completed → CompleteReply
-lines_reply (Listed lines entered) = record { answer = 0; lines = lines; entered = entered }
-lines_reply (Not-listed x) = no_lines (number x)
+abbrev pub lines_reply : Result Listed Refusal → CompleteReply
+lines_reply (Ok listed) = record { answer = 0; lines = listed.lines; entered = listed.entered }
+lines_reply (Err x) = no_lines (number x)
 
 -- The reply to a completion, and a length besides.
 abbrev pub shared_reply : CompleteReply → ℕ → SharedReply

@@ -8,12 +8,11 @@ ghost use Rattle.table_roots.specs.Answers.{name_found};
 ghost use Rattle.screen_replies.specs.Filters.{names_for, modules_for, is_asked};
 ghost use Rattle.screen_replies.specs.Replies.{name_reply, flag, no_module, symbol_reply, module_reply, no_lines, lines_reply, shared_reply};
 
-use listing::Completed;
+use listing::Listed;
 use listing_ask::{Ask, Filter};
 use memory::ModSymbol;
-use source::KindFilter;
-use table::{Finding, Listing, ModuleFinding};
-use table_roots::{Found, FoundModule};
+use source::{KindFilter, LidSymbol};
+use table::Answer;
 
 // The answer of a look-up that finds nothing: no refusal has this number.
 pub const NONE: u32 = 4294967295;
@@ -88,21 +87,17 @@ pub fn no_module(answer: u32) -> ModuleReply
 }
 
 // The reply of crate table's answer.
-pub fn name_reply(x: Finding) -> NameReply
+pub fn name_reply(x: Answer<Option<LidSymbol>>) -> NameReply
     ensures { result ≡ name_reply (name_found x.answer) }
 {
-    let f = x.answer;
-    match f {
-        Found::Item(item) => {
-            let kind = item.kind;
-            NameReply {
-                answer: 0,
-                kind: u32::from(kind),
-                number: item.number,
-            }
-        }
-        Found::Nothing => no_name(NONE),
-        Found::Refused(x) => no_name(u32::from(x)),
+    match x.answer {
+        Ok(Some(item)) => NameReply {
+            answer: 0,
+            kind: u32::from(item.kind),
+            number: item.number,
+        },
+        Ok(None) => no_name(NONE),
+        Err(x) => no_name(u32::from(x)),
     }
 }
 
@@ -110,10 +105,7 @@ pub fn name_reply(x: Finding) -> NameReply
 fn flag_of(b: bool) -> u32
     ensures { result ≡ flag b }
 {
-    if b {
-        return 1;
-    }
-    0
+    u32::from(b)
 }
 
 // The reply of a module or namespace.
@@ -143,14 +135,13 @@ fn symbol_reply(s: ModSymbol) -> ModuleReply
 }
 
 // The reply of crate table's answer.
-pub fn module_reply(x: ModuleFinding) -> ModuleReply
+pub fn module_reply(x: Answer<Option<ModSymbol>>) -> ModuleReply
     ensures { result ≡ module_reply x.answer }
 {
-    let f = x.answer;
-    match f {
-        FoundModule::Symbol(s) => symbol_reply(s),
-        FoundModule::Nothing => no_module(NONE),
-        FoundModule::Refused(x) => no_module(u32::from(x)),
+    match x.answer {
+        Ok(Some(s)) => symbol_reply(s),
+        Ok(None) => no_module(NONE),
+        Err(x) => no_module(u32::from(x)),
     }
 }
 
@@ -166,17 +157,16 @@ pub fn no_lines(answer: u32) -> CompleteReply
 }
 
 // The reply of crate table's answer.
-pub fn lines_reply(x: Listing) -> CompleteReply
+pub fn lines_reply(x: Answer<Listed>) -> CompleteReply
     ensures { result ≡ lines_reply x.answer }
 {
-    let c = x.answer;
-    match c {
-        Completed::Listed(lines, entered) => CompleteReply {
+    match x.answer {
+        Ok(l) => CompleteReply {
             answer: 0,
-            lines: lines,
-            entered: entered,
+            lines: l.lines,
+            entered: l.entered,
         },
-        Completed::Refused(x) => no_lines(u32::from(x)),
+        Err(x) => no_lines(u32::from(x)),
     }
 }
 

@@ -12,9 +12,6 @@ use Rattle.table.specs.Answers.{Finds}
 use Rattle.table.specs.Completions.{Completes}
 use Rattle.table.specs.Registrations.{Answers, Total}
 use Rattle.table.specs.declared.Table.{Table}
-use Rattle.table.specs.declared.Registration.{Registration}
-use Rattle.table.specs.declared.Finding.{Finding}
-use Rattle.table.specs.declared.Listing.{Listing}
 use Rattle.table.proofs.Says.{says_same}
 use Rattle.screen_replies.specs.Replies.{name_reply, lines_reply}
 use Rattle.screen_replies.specs.declared.NameReply.{NameReply}
@@ -24,8 +21,12 @@ use Rattle.table_shared.specs.Sharing.{CompletesShared}
 use Rattle.table_shared.specs.declared.Sharing.{Sharing}
 use Rattle.screen_tests.specs.Replies.{ask_of, reply_of, shared_of, RegisterReplies, FindReplies, ListReplies, SharedReplies}
 use Rattle.screen_tests.specs.declared.Reply.{Reply}
+use Rattle.listing.specs.declared.Listed.{Listed}
+use Rattle.source.specs.declared.LidSymbol.{LidSymbol}
+use Rattle.table.specs.declared.Answer.{Answer}
+use Rattle.std.specs.Prelude.{Option}
 
-module _ {ws txt ws' txt' : List ℕ} {tab tab' : Table} {c : Call} {x : Registration} {r : Reply} where
+module _ {ws txt ws' txt' : List ℕ} {tab tab' : Table} {c : Call} {x : Answer Unit} {r : Reply} where
   pub register_replies : tab ≡ tab' → Total ws txt ws' txt' tab c x → r ≡ reply_of x
       → RegisterReplies ws txt ws' txt' tab' c r
   register_replies e a f = record { answer = x; total = subst (λ u. Total ws txt ws' txt' u c x) e a; reply = f }
@@ -35,7 +36,8 @@ module _ {ws txt ws' txt' : List ℕ} {tab tab' : Table} {c : Call} {x : Registr
       → RegisterReplies ws txt ws' txt' tab' c r
   replies_sound e o a f = record { answer = x; total = λ b h. rw (says_same _ b true h o) (subst (λ u. Answers true ws txt ws' txt' u c x) e a); reply = f }
 
-pub finds_replies : {ws txt : List ℕ} {tab tab' : Table} {query : Str} {x : Finding} {r : NameReply} → tab ≡ tab'
+pub finds_replies : {ws txt : List ℕ} {tab tab' : Table} {query : Str} {x : Answer (Option LidSymbol)} {r : NameReply}
+    → tab ≡ tab'
     → Finds ws txt tab query x → r ≡ name_reply (name_found x.answer) → FindReplies ws txt tab' query r
 finds_replies {ws} {txt} {query = query} {x} e a f = record { answer = x; finds = subst (λ u. Finds ws txt u query x) e a; reply = f }
 
@@ -47,7 +49,7 @@ same_asked P {tab' = tab'} {ask} e g x = subst (P tab') g (subst (λ (u : Table)
 module _ {ws txt : List ℕ} {tab tab' : Table} {ask : Ask} {n : ℕ} {query : Str} {budget : ℕ}
     {flat flat' out out' : List ℕ}
     (e : tab ≡ tab') (g : ask ≡ ask_of n) where
-  pub lists_replies : {x : Listing} {r : CompleteReply}
+  pub lists_replies : {x : Answer Listed} {r : CompleteReply}
       → Completes ws txt tab (record { ask = ask; budget = budget }) query flat flat' out out' x → r ≡ lines_reply x.answer
       → ListReplies ws txt tab' n query budget flat flat' out out' r
   lists_replies {x} a f = record {

@@ -1,5 +1,5 @@
 -- What the calls for tests reply: what crate table hands back, as numbers.
-use Rattle.std.specs.Prelude.{ℕ, ◌-◌, ◌≡◌, List, ltb}
+use Rattle.std.specs.Prelude.{ℕ, ◌-◌, ◌≡◌, List, ltb, Err, Ok, Option, Result}
 use Rattle.source.specs.Text.{Str}
 use Rattle.source.specs.Tries.{dflt}
 use Rattle.source.specs.Items.{read_kind}
@@ -11,11 +11,6 @@ use Rattle.listing_ask.specs.declared.Ask.{Ask}
 use Rattle.listing_ask.specs.declared.Ask.TheVariants.{Modules}
 use Rattle.listing_ask.specs.declared.Filter.TheVariants.{NamespacesOnly}
 use Rattle.table.specs.declared.Table.{Table}
-use Rattle.table.specs.declared.Registered.{Registered}
-use Rattle.table.specs.declared.Registered.TheVariants.{Accepted, Refused}
-use Rattle.table.specs.declared.Registration.{Registration}
-use Rattle.table.specs.declared.Finding.{Finding}
-use Rattle.table.specs.declared.Listing.{Listing}
 use Rattle.table_roots.specs.Answers.{name_found}
 use Rattle.table.specs.Answers.{Finds}
 use Rattle.table.specs.Completions.{Completes}
@@ -28,6 +23,9 @@ use Rattle.screen_replies.specs.declared.SharedReply.{SharedReply}
 use Rattle.table_shared.specs.Sharing.{CompletesShared}
 use Rattle.table_shared.specs.declared.Sharing.{Sharing}
 use Rattle.screen_tests.specs.declared.Reply.{Reply}
+use Rattle.listing.specs.declared.Listed.{Listed}
+use Rattle.refusals.specs.declared.Refusal.{Refusal}
+use Rattle.table.specs.declared.Answer.{Answer}
 
 -- The table of four numbers.
 abbrev pub table_of : (names modules records used : ℕ) → Table
@@ -45,11 +43,11 @@ item_of kind number = record { kind = read_kind kind; number = number }
 -- ---- Registrations
 
 -- 0, or the number of the refusal.
-abbrev pub refusal_of : Registered → ℕ
-refusal_of Accepted = 0
-refusal_of (Refused x) = number x
+abbrev pub refusal_of : Result Unit Refusal → ℕ
+refusal_of (Ok _) = 0
+refusal_of (Err x) = number x
 
-abbrev pub reply_of : Registration → Reply
+abbrev pub reply_of : Answer Unit → Reply
 reply_of x = record {
   refusal = refusal_of x.answer;
   names = x.table.header.names;
@@ -60,7 +58,7 @@ reply_of x = record {
 
 -- The reply to a registration: that of what table's contract says.
 pub record RegisterReplies (ws txt ws' txt' : List ℕ) (tab : Table) (c : Call) (r : Reply) : Type 0 where
-  pub answer : Registration
+  pub answer : Answer Unit
   pub total : Total ws txt ws' txt' tab c answer
   pub reply : r ≡ reply_of answer
 
@@ -68,7 +66,7 @@ pub record RegisterReplies (ws txt ws' txt' : List ℕ) (tab : Table) (c : Call)
 
 -- The reply to a look-up of a name: that of what table's contract says.
 pub record FindReplies (ws txt : List ℕ) (tab : Table) (query : Str) (r : NameReply) : Type 0 where
-  pub answer : Finding
+  pub answer : Answer (Option LidSymbol)
   pub finds : Finds ws txt tab query answer
   pub reply : r ≡ name_reply (name_found answer.answer)
 
@@ -78,7 +76,7 @@ pub record FindReplies (ws txt : List ℕ) (tab : Table) (query : Str) (r : Name
 pub record ListReplies (ws txt : List ℕ) (tab : Table) (ask : ℕ) (query : Str) (budget : ℕ)
     (flat flat' out out' : List ℕ)
     (r : CompleteReply) : Type 0 where
-  pub answer : Listing
+  pub answer : Answer Listed
   pub completes : Completes ws txt tab (record { ask = ask_of ask; budget = budget }) query flat flat' out out' answer
   pub reply : r ≡ lines_reply answer.answer
 

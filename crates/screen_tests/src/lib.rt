@@ -1,4 +1,4 @@
-// Calls for tests and benchmarks outside Rattle: slices pass as a pointer and a length, a table as its four numbers.
+// Calls for tests and benchmarks outside Rattle: slices pass as a pointer and a length, a table as its four numbers, as tests/product declares them in C.
 // Each replies what crate table hands back.
 #![tactic(auto)]
 
@@ -11,9 +11,10 @@ ghost use Rattle.screen_tests.specs.Replies.{SharedReplies};
 
 use listing_ask::{Ask, Filter, Request};
 use memory_table::Header;
+use refusals::Refusal;
 use screen_replies::{CompleteReply, NameReply, SharedReply};
 use source::LidSymbol;
-use table::{Registered, Registration, Table};
+use table::{Answer, Table};
 use table_shared::Sharing;
 
 // A registration's reply: 0 or the number of the refusal, and the table.
@@ -50,16 +51,16 @@ fn item_of(kind: u32, number: u32) -> LidSymbol
     }
 }
 
-fn refusal_of(a: Registered) -> u32
+fn refusal_of(a: Result<(), Refusal>) -> u32
     ensures { result ≡ refusal_of a }
 {
     match a {
-        Registered::Accepted => 0,
-        Registered::Refused(x) => u32::from(x),
+        Ok(()) => 0,
+        Err(x) => u32::from(x),
     }
 }
 
-fn reply_of(x: Registration) -> Reply
+fn reply_of(x: Answer<()>) -> Reply
     ensures { result ≡ reply_of x }
 {
     let t = x.table;

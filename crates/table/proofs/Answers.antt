@@ -17,8 +17,8 @@ use Rattle.table.specs.Registrations.{Accepts, AnswersAs, Answers}
 use Rattle.table.specs.declared.Table.{Table}
 use Rattle.refusals.specs.declared.Refusal.{Refusal}
 use Rattle.refusals.specs.declared.Refusal.TheVariants.{Unsound}
-use Rattle.table.specs.declared.Registration.{Registration}
-use Rattle.table.specs.declared.Registered.TheVariants.{Accepted, Refused}
+use Rattle.table.specs.declared.Answer.{Answer}
+use Rattle.std.specs.Prelude.{Ok, Err}
 
 module _ (b : Bool) (loan : Lent) (σ : State) (c : Call) where
   register_refused : {n : ℕ} → first_row (registration_rows b loan σ c) ≡ some n → register b loan σ c ≡ refused n
@@ -36,16 +36,16 @@ register_unsound loan σ c = refl
 module _ {ws txt : List ℕ} {tab : Table} {c : Call} where
   pub answers_refused : {x : Refusal}
       → first_row (registration_rows true (lent ws txt) (state ws txt tab) c) ≡ some (number x)
-      → Answers true ws txt ws txt tab c (record { table = tab; answer = Refused x })
+      → Answers true ws txt ws txt tab c (record { table = tab; answer = Err x })
   answers_refused e = record { says = rw (register_refused true _ _ c e) (refl, record { table = refl; words = refl; text = refl }) }
 
   pub answers_accepted : {ws' txt' : List ℕ} {tab' : Table}
       → first_row (registration_rows true (lent ws txt) (state ws txt tab) c) ≡ none
       → Accepts ws txt ws' txt' tab tab' c (after (state ws txt tab) c)
-      → Answers true ws txt ws' txt' tab c (record { table = tab'; answer = Accepted })
+      → Answers true ws txt ws' txt' tab c (record { table = tab'; answer = Ok tt })
   answers_accepted e a = record { says = rw (register_accepted true _ _ c e) (refl, a) }
 
-  pub answers_unsound : Answers false ws txt ws txt tab c (record { table = tab; answer = Refused Unsound })
+  pub answers_unsound : Answers false ws txt ws txt tab c (record { table = tab; answer = Err Unsound })
   answers_unsound = record { says = rw register_unsound (refl, record { table = refl; words = refl; text = refl }) }
 
 -- Calls with the same texts and the same other root are accepted alike.
@@ -61,14 +61,14 @@ accepts_like e f a = record {
   laid = a.laid ∙ e;
 }
 
-module _ (ws txt ws' txt' : List ℕ) (tab : Table) (r : Registration) (c d : Call) (e : laid_texts c ≡ laid_texts d)
+module _ (ws txt ws' txt' : List ℕ) (tab : Table) (r : Answer Unit) (c d : Call) (e : laid_texts c ≡ laid_texts d)
     (f : untouched c ≡ untouched d) where
   answers_like : (v : Registered) → AnswersAs v ws txt ws' txt' tab c r → AnswersAs v ws txt ws' txt' tab d r
   answers_like (accepted s) (n, a) = (n, accepts_like e f a)
   answers_like (refused n) a = a
 
 -- register_open_module promises what register_include does, at either door.
-pub open_module_answers : {b : Bool} {ws txt ws' txt' : List ℕ} {tab : Table} {host query : Str} {r : Registration}
+pub open_module_answers : {b : Bool} {ws txt ws' txt' : List ℕ} {tab : Table} {host query : Str} {r : Answer Unit}
     → Answers b ws txt ws' txt' tab (opens true host query) r ↔ Answers b ws txt ws' txt' tab (include host query) r
 open_module_answers {b} {ws} {txt} {ws'} {txt'} {tab} {host} {query} {r} =
     let o = opens true host query in

@@ -19,8 +19,9 @@ use Rattle.table_roots.specs.Completions.{root_for}
 use Rattle.table.specs.Completions.{completion, Completes}
 use Rattle.table.specs.declared.Table.{Table}
 use Rattle.refusals.specs.declared.Refusal.TheVariants.{Unsound}
-use Rattle.listing.specs.declared.Completed.{Completed}
-use Rattle.listing.specs.declared.Completed.TheVariants.{Refused}
+use Rattle.refusals.specs.declared.Refusal.{Refusal}
+use Rattle.listing.specs.declared.Listed.{Listed}
+use Rattle.std.specs.Prelude.{Result, Err}
 use Rattle.table.proofs.Says.{says_same}
 
 on_table : (ws txt : List ℕ) (tab : Table) (ask : Ask) (budget : ℕ) (out : Output) (query : Str)
@@ -32,7 +33,7 @@ on_table ws txt tab (Names f) budget out query = rw (autocomplete_lid_is (table_
 on_table ws txt tab (Modules f) budget out query = rw (autocomplete_mod_or_ns_is (table_in ws txt tab) (segments query) (keeps (filter_in f)))
 
 pub completes_table : {ws txt : List ℕ} {tab : Table} {request : Request} {query : Str} {flat flat' out out' : List ℕ}
-    {r : Completed} → IsSound ws txt tab
+    {r : Result Listed Refusal} → IsSound ws txt tab
     → CompletesOn (used_words ws tab.header) (used_text txt tab.header) request
     (root_for tab.header request.ask)
     query flat flat' out out' r
@@ -52,13 +53,13 @@ completes_table {ws} {txt} {tab} {request} {query} {flat} {flat'} {out} {out'} {
 -- A memory that is not sound is refused, whatever is asked.
 pub completes_unsound : {ws txt : List ℕ} {tab : Table} {request : Request} {query : Str} {flat out : List ℕ}
     → (IsSound ws txt tab → ⊥)
-    → Completes ws txt tab request query flat flat out out (record { table = tab; answer = Refused Unsound })
+    → Completes ws txt tab request query flat flat out out (record { table = tab; answer = Err Unsound })
 unfolding complete complete_modules completed completion_rows first_row argument_rows
 completes_unsound {ws} {txt} {tab} {request} {query} {flat} {out} o = record { table = refl; says = λ b h. rw (says_same _ b false h o) (go request.ask) }
   where
     go : (ask : Ask)
         → CompletesAs ask (used_words ws tab.header) (used_text txt tab.header) flat flat out out
-        (Refused Unsound)
+        (Err Unsound)
         (completion false (table_in ws txt tab) ask request.budget (output flat out) query)
     go (Names f) = (refl, refl, refl)
     go (Modules f) = (refl, refl, refl)

@@ -14,7 +14,8 @@ use Rattle.listing_ask.specs.declared.Request.{Request}
 use Rattle.listing.specs.Completes.{output, CompletesAs}
 use Rattle.table.specs.Header.{IsSound, table_in}
 use Rattle.table.specs.declared.Table.{Table}
-use Rattle.table.specs.declared.Listing.{Listing}
+use Rattle.listing.specs.declared.Listed.{Listed}
+use Rattle.table.specs.declared.Answer.{Answer}
 
 -- The requirements' answer to what is asked.
 abbrev pub completion : (sound : Bool) → S.Table → (ask : Ask) → (budget : ℕ) → Output → Str
@@ -25,7 +26,7 @@ completion sound tbl (Modules f) budget out query = complete_modules sound tbl (
 -- What a completion hands back, in any memory: the table as it was, and the answer of the definition, its lines' items from used records, their
 -- texts in the used text; b says whether the memory is sound.
 pub record Completes (ws txt : List ℕ) (tab : Table) (request : Request) (query : Str) (flat flat' out out' : List ℕ)
-    (r : Listing) : Type 0 where
+    (r : Answer Listed) : Type 0 where
   pub table : r.table ≡ tab
   pub says : (b : Bool) → Says b (IsSound ws txt tab)
       → CompletesAs request.ask (used_words ws tab.header) (used_text txt tab.header)

@@ -12,12 +12,13 @@ ghost use Rattle.table.specs.Answers.{Finds, FindsModule};
 ghost use Rattle.table.specs.Completions.{Completes};
 ghost use Rattle.table.specs.Registrations.{Answers, Total};
 
-use listing::Completed;
+use listing::Listed;
 use listing_ask::Request;
+use memory::ModSymbol;
 use memory_table::Header;
 use refusals::Refusal;
 use register_kind::Entry;
-use table_roots::{Found, FoundModule};
+use source::LidSymbol;
 
 // A table: its header by value.
 #[derive(Clone, Copy)]
@@ -25,39 +26,11 @@ pub struct Table {
     pub header: Header,
 }
 
-// The table that a look-up of a name hands back, with its answer.
+// The table that a call hands back, with its answer: a value, or a refusal.
 #[derive(Clone, Copy)]
-pub struct Finding {
+pub struct Answer<T> {
     pub table: Table,
-    pub answer: Found,
-}
-
-// The table that a look-up of a module or namespace hands back, with its answer.
-#[derive(Clone, Copy)]
-pub struct ModuleFinding {
-    pub table: Table,
-    pub answer: FoundModule,
-}
-
-// The table that a completion hands back, with its answer.
-#[derive(Clone, Copy)]
-pub struct Listing {
-    pub table: Table,
-    pub answer: Completed,
-}
-
-// The answer of a registration.
-#[derive(Clone, Copy)]
-pub enum Registered {
-    Accepted,
-    Refused(Refusal),
-}
-
-// The table that a registration hands back, with its answer.
-#[derive(Clone, Copy)]
-pub struct Registration {
-    pub table: Table,
-    pub answer: Registered,
+    pub answer: Result<T, Refusal>,
 }
 
 impl Table {
@@ -98,13 +71,13 @@ impl Table {
         query: &[u8],
         flat: &mut [u8],
         out: &mut [u8],
-    ) -> Listing
+    ) -> Answer<Listed>
         requires { IsSound words.now text.now self }
         ensures { Completes words.now text.now self request query.now
             flat.old flat.new out.old out.new result }
     {
         let answer = table_roots::complete(words, text, self.header, request, query, flat, out);
-        Listing {
+        Answer {
             table: self,
             answer: answer,
         }
@@ -119,66 +92,71 @@ impl Table {
         query: &[u8],
         flat: &mut [u8],
         out: &mut [u8],
-    ) -> Listing
+    ) -> Answer<Listed>
         ensures { Completes words.now text.now self request query.now
             flat.old flat.new out.old out.new result }
     {
         if self.is_sound(words, text) {
             return self.complete_sound(words, text, request, query, flat, out);
         }
-        Listing {
+        Answer {
             table: self,
-            answer: Completed::Refused(Refusal::Unsound),
+            answer: Err(Refusal::Unsound),
         }
     }
 
     // Look-up of a name, in a sound memory.
-    pub fn find_sound(self, words: &[u32], text: &[u8], query: &[u8]) -> Finding
+    pub fn find_sound(self, words: &[u32], text: &[u8], query: &[u8]) -> Answer<Option<LidSymbol>>
         requires { IsSound words.now text.now self }
         ensures { Finds words.now text.now self query.now result }
     {
         let answer = table_roots::find(words, text, self.header, query);
-        Finding {
+        Answer {
             table: self,
             answer: answer,
         }
     }
 
     // The same, in any memory.
-    pub fn find(self, words: &[u32], text: &[u8], query: &[u8]) -> Finding
+    pub fn find(self, words: &[u32], text: &[u8], query: &[u8]) -> Answer<Option<LidSymbol>>
         ensures { Finds words.now text.now self query.now result }
     {
         if self.is_sound(words, text) {
             return self.find_sound(words, text, query);
         }
-        Finding {
+        Answer {
             table: self,
-            answer: Found::Refused(Refusal::Unsound),
+            answer: Err(Refusal::Unsound),
         }
     }
 
     // Look-up of a module or namespace, in a sound memory.
-    pub fn find_module_sound(self, words: &[u32], text: &[u8], query: &[u8]) -> ModuleFinding
+    pub fn find_module_sound(
+        self,
+        words: &[u32],
+        text: &[u8],
+        query: &[u8],
+    ) -> Answer<Option<ModSymbol>>
         requires { IsSound words.now text.now self }
         ensures { FindsModule words.now text.now self query.now result }
     {
         let answer = table_roots::find_module(words, text, self.header, query);
-        ModuleFinding {
+        Answer {
             table: self,
             answer: answer,
         }
     }
 
     // The same, in any memory.
-    pub fn find_module(self, words: &[u32], text: &[u8], query: &[u8]) -> ModuleFinding
+    pub fn find_module(self, words: &[u32], text: &[u8], query: &[u8]) -> Answer<Option<ModSymbol>>
         ensures { FindsModule words.now text.now self query.now result }
     {
         if self.is_sound(words, text) {
             return self.find_module_sound(words, text, query);
         }
-        ModuleFinding {
+        Answer {
             table: self,
-            answer: FoundModule::Refused(Refusal::Unsound),
+            answer: Err(Refusal::Unsound),
         }
     }
 
@@ -192,7 +170,7 @@ impl Table {
         host: &[u8],
         other: &[u8],
         key: &[u8],
-    ) -> Registration
+    ) -> Answer<()>
         requires { IsSound words.old text.old self }
         ensures { Answers true words.old text.old words.new text.new self
             (call_of entry.kind host.now other.now key.now) result }
@@ -201,15 +179,15 @@ impl Table {
         let n = register_kind::key_size(kind, key.len());
         let key = &key[..n];
         match register::check(words, text, self.header, entry, host, other, key) {
-            Err(x) => Registration {
+            Err(x) => Answer {
                 table: self,
-                answer: Registered::Refused(x),
+                answer: Err(x),
             },
             Ok(way) => {
                 let h = register::write(words, text, self.header, entry, host, other, key, &way);
-                Registration {
+                Answer {
                     table: Table { header: h },
-                    answer: Registered::Accepted,
+                    answer: Ok(()),
                 }
             }
         }
@@ -224,16 +202,16 @@ impl Table {
         host: &[u8],
         other: &[u8],
         key: &[u8],
-    ) -> Registration
+    ) -> Answer<()>
         ensures { Total words.old text.old words.new text.new self
             (call_of entry.kind host.now other.now key.now) result }
     {
         if self.is_sound(words, text) {
             return self.register_sound(words, text, entry, host, other, key);
         }
-        Registration {
+        Answer {
             table: self,
-            answer: Registered::Refused(Refusal::Unsound),
+            answer: Err(Refusal::Unsound),
         }
     }
 }

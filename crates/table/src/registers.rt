@@ -1,10 +1,10 @@
-// Registrations under the source's names.
+// Registrations under the source's names, each by the two doors that docs/PROMISES.md names. What they ask differs, so that they are not one generic call.
 ghost use Rattle.std.specs.Prelude.{true, false};
 ghost use Rattle.source.specs.Calls.{name, include, opens, alias, module_path};
 ghost use Rattle.table.specs.Header.{IsSound};
 ghost use Rattle.table.specs.Registrations.{Answers, Total};
 
-use crate::{Registration, Table};
+use crate::{Answer, Table};
 use register_kind::{CallKind, Entry};
 use source::LidSymbol;
 
@@ -17,7 +17,7 @@ impl Table {
         host: &[u8],
         id: &[u8],
         item: LidSymbol,
-    ) -> Registration
+    ) -> Answer<()>
         ensures { Total words.old text.old words.new text.new self (name host.now id.now item) result }
     {
         let kind = item.kind;
@@ -35,7 +35,7 @@ impl Table {
         host: &[u8],
         id: &[u8],
         item: LidSymbol,
-    ) -> Registration
+    ) -> Answer<()>
         requires { IsSound words.old text.old self }
         ensures { Answers true words.old text.old words.new text.new self
             (name host.now id.now item) result }
@@ -54,7 +54,7 @@ impl Table {
         text: &mut [u8],
         host: &[u8],
         query: &[u8],
-    ) -> Registration
+    ) -> Answer<()>
         ensures { Total words.old text.old words.new text.new self (include host.now query.now) result }
     {
         let entry = Entry {
@@ -70,7 +70,7 @@ impl Table {
         text: &mut [u8],
         host: &[u8],
         query: &[u8],
-    ) -> Registration
+    ) -> Answer<()>
         requires { IsSound words.old text.old self }
         ensures { Answers true words.old text.old words.new text.new self
             (include host.now query.now) result }
@@ -88,7 +88,7 @@ impl Table {
         text: &mut [u8],
         host: &[u8],
         query: &[u8],
-    ) -> Registration
+    ) -> Answer<()>
         ensures { Total words.old text.old words.new text.new self (opens false host.now query.now)
             result }
     {
@@ -105,7 +105,7 @@ impl Table {
         text: &mut [u8],
         host: &[u8],
         query: &[u8],
-    ) -> Registration
+    ) -> Answer<()>
         requires { IsSound words.old text.old self }
         ensures { Answers true words.old text.old words.new text.new self
             (opens false host.now query.now) result }
@@ -123,7 +123,7 @@ impl Table {
         text: &mut [u8],
         host: &[u8],
         query: &[u8],
-    ) -> Registration
+    ) -> Answer<()>
         ensures { Total words.old text.old words.new text.new self (opens true host.now query.now)
             result }
     {
@@ -140,7 +140,7 @@ impl Table {
         text: &mut [u8],
         host: &[u8],
         query: &[u8],
-    ) -> Registration
+    ) -> Answer<()>
         requires { IsSound words.old text.old self }
         ensures { Answers true words.old text.old words.new text.new self
             (opens true host.now query.now) result }
@@ -159,7 +159,7 @@ impl Table {
         key: &[u8],
         host: &[u8],
         query: &[u8],
-    ) -> Registration
+    ) -> Answer<()>
         ensures { Total words.old text.old words.new text.new self
             (alias key.now host.now query.now) result }
     {
@@ -177,7 +177,7 @@ impl Table {
         key: &[u8],
         host: &[u8],
         query: &[u8],
-    ) -> Registration
+    ) -> Answer<()>
         requires { IsSound words.old text.old self }
         ensures { Answers true words.old text.old words.new text.new self
             (alias key.now host.now query.now) result }
@@ -196,7 +196,7 @@ impl Table {
         loaded: bool,
         query: &[u8],
         path: &[u8],
-    ) -> Registration
+    ) -> Answer<()>
         ensures { Total words.old text.old words.new text.new self
             (module_path loaded query.now path.now) result }
     {
@@ -214,7 +214,7 @@ impl Table {
         loaded: bool,
         query: &[u8],
         path: &[u8],
-    ) -> Registration
+    ) -> Answer<()>
         requires { IsSound words.old text.old self }
         ensures { Answers true words.old text.old words.new text.new self
             (module_path loaded query.now path.now) result }

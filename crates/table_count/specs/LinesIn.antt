@@ -1,9 +1,9 @@
 -- How many lines a completion lists.
-use Rattle.std.specs.Prelude.{ℕ}
-use Rattle.listing.specs.declared.Completed.{Completed}
-use Rattle.listing.specs.declared.Completed.TheVariants.{Listed, Refused}
+use Rattle.std.specs.Prelude.{ℕ, Err, Ok, Result}
+use Rattle.listing.specs.declared.Listed.{Listed}
+use Rattle.refusals.specs.declared.Refusal.{Refusal}
 
 -- How many lines an answer lists.
-abbrev pub lines_in : Completed → ℕ
-lines_in (Listed lines entered) = lines
-lines_in (Refused r) = 0
+abbrev pub lines_in : Result Listed Refusal → ℕ
+lines_in (Ok listed) = listed.lines
+lines_in (Err r) = 0

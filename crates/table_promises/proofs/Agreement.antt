@@ -35,18 +35,33 @@ use Rattle.table_roots.proofs.Written.{written_whole}
 use Rattle.table.specs.Header.{IsSound, table_in}
 use Rattle.table_promises.specs.Agreement.{HoldsName, HoldsModule, HoldsLines, CallsAgree, CallsFound}
 use Rattle.table.specs.declared.Table.{Table}
-use Rattle.listing.specs.declared.Completed.{Completed}
-use Rattle.listing.specs.declared.Completed.TheVariants.{Listed}
+use Rattle.std.specs.Prelude.{Ok, Err, Result}
+use Rattle.refusals.specs.declared.Refusal.{Refusal}
+use Rattle.listing.specs.declared.Listed.{Listed}
+
+-- What a listing says, of two answers that are one.
+abbrev lines_of : Result Listed Refusal → ℕ
+lines_of (Ok listed) = listed.lines
+lines_of (Err r) = 0
+
+abbrev entered_of : Result Listed Refusal → ℕ
+entered_of (Ok listed) = listed.entered
+entered_of (Err r) = 0
+
+pub listed_same : {n m e f : ℕ}
+    → ◌≡◌ {A = Result Listed Refusal} (Ok (record { lines = n; entered = e })) (Ok (record { lines = m; entered = f }))
+    → (n ≡ m) × (e ≡ f)
+listed_same e = (ap lines_of e, ap entered_of e)
 
 -- A listing that was not refused.
 pub listed_lines : (ask : Ask) (ws txt : List ℕ) (h : Header) (flat flat' out out' : List ℕ) (n entered : ℕ)
     (o : C.Completed (Item (asked ask)))
-    → CompletesAs ask (used_words ws h) (used_text txt h) flat flat' out out' (Listed n entered) o
+    → CompletesAs ask (used_words ws h) (used_text txt h) flat flat' out out' (Ok (record { lines = n; entered = entered })) o
     → (lines : List (Line (Item (asked ask)))) × (o ≡ C.listed lines entered)
     × (lines_seen (asked ask) txt flat' out' n ≡ lines)
 listed_lines ask ws txt h flat flat' out out' n entered (C.listed lines e) x =
-    let k : n ≡ length lines = cc in
-    let f : e ≡ entered = cc in
+    let k : n ≡ length lines = (listed_same x.0).0 in
+    let f : e ≡ entered = sym (listed_same x.0).1 in
     (lines, rw f, rw k (written_seen (written_whole ws txt (h.records * 12) h.text (asked ask) x.1)))
 listed_lines ask ws txt h flat flat' out out' n entered (C.refused m) x = absurd (none-ne-some m x.0)
 

@@ -12,11 +12,11 @@ use Rattle.source.proofs.Refusals.{accepted_is}
 use Rattle.promises.proofs.Unchanged.{name_unchanged}
 use Rattle.source.specs.declared.LidSymbol.{LidSymbol}
 use Rattle.table.specs.declared.Table.{Table}
-use Rattle.table.specs.declared.Registration.{Registration}
 use Rattle.table.specs.Header.{table_in, state, lent, names_in}
 use Rattle.table.specs.Registrations.{refusal_of, AnswersAs, Answers}
+use Rattle.table.specs.declared.Answer.{Answer}
 
-module _ {ws txt ws' txt' : List ℕ} {tab : Table} {c : Call} {r : Registration}
+module _ {ws txt ws' txt' : List ℕ} {tab : Table} {c : Call} {r : Answer Unit}
     (a : Answers true ws txt ws' txt' tab c r)
     (e : refusal_of r.answer ≡ none) where
   -- The definition accepts, with the state that the new header reads as.
@@ -33,13 +33,13 @@ module _ {ws txt ws' txt' : List ℕ} {tab : Table} {c : Call} {r : Registration
   accepted_table = ap (λ (x : State). x.table) (accepted_is true (lent ws txt) (state ws txt tab) _ c accepts)
 
 -- The two calls that open, by the source's register_open at the flag of each.
-pub opened_table : {ws txt ws' txt' : List ℕ} {tab : Table} {r : Registration} (is_module : Bool) (host query : Str)
+pub opened_table : {ws txt ws' txt' : List ℕ} {tab : Table} {r : Answer Unit} (is_module : Bool) (host query : Str)
     → Answers true ws txt ws' txt' tab (opens is_module host query) r → refusal_of r.answer ≡ none
     → table_in ws' txt' r.table ≡ register_open (table_in ws txt tab) is_module (segments host) (segments query)
 unfolding registered
 opened_table is_module host query a e = accepted_table a e
 
-pub insert_unchanged : (ws txt ws' txt' : List ℕ) (tab : Table) (host id : Str) (item : LidSymbol) (r : Registration)
+pub insert_unchanged : (ws txt ws' txt' : List ℕ) (tab : Table) (host id : Str) (item : LidSymbol) (r : Answer Unit)
     (query : Str)
     → Answers true ws txt ws' txt' tab (name host id item) r → refusal_of r.answer ≡ none
     → (segments query ≡ segments host ++ (id ∷ []) → ⊥)

@@ -43,12 +43,13 @@ use Rattle.listing_row.specs.declared.RowItem.TheVariants.{Name, Symbol}
 use Rattle.table.specs.Header.{IsSound, table_in}
 use Rattle.listing.specs.Completes.{refused_by, CompletesAs}
 use Rattle.table.specs.declared.Table.{Table}
-use Rattle.listing.specs.declared.Completed.TheVariants.{Listed}
 use Rattle.table_typed.specs.Completions.{output, Shown, ShownAs}
 use Rattle.table_typed.specs.Lines.{record_with, record_seen}
 use Rattle.table_promises.specs.Agreement.{HoldsName, HoldsModule}
 use Rattle.table_promises.specs.Typed.{LinesStand, HoldsTyped, TypedAgree, TypedFound}
 use Rattle.table_typed.specs.declared.Line.{Line}
+use Rattle.std.specs.Prelude.{Ok}
+use Rattle.table_promises.proofs.Agreement.{listed_same}
 
 -- ---- What stands in the line structs and in the output text says which lines they are
 
@@ -133,13 +134,13 @@ module _ (w : Which) (txt : List ℕ) (k : ℕ) where
 -- A listing that was not refused.
 listed_lines : (ask : Ask) (ws txt : List ℕ) (h : Header) (flat flat' out out' : List ℕ) (ls ls' : List Line)
     (n entered : ℕ) (o : C.Completed (Item (asked ask)))
-    → CompletesAs ask (used_words ws h) (used_text txt h) flat flat' out out' (Listed n entered) o
+    → CompletesAs ask (used_words ws h) (used_text txt h) flat flat' out out' (Ok (record { lines = n; entered = entered })) o
     → ShownAs ask (used_text txt h) ls ls' o
     → (lines : List (S.Line (Item (asked ask)))) × (o ≡ C.listed lines entered)
     × LinesStand (asked ask) txt ls ls' out out' n lines
 listed_lines ask ws txt h flat flat' out out' ls ls' n entered (C.listed lines e) x s =
-    let k : n ≡ length lines = cc in
-    let f : e ≡ entered = cc in
+    let k : n ≡ length lines = (listed_same x.0).0 in
+    let f : e ≡ entered = sym (listed_same x.0).1 in
     let z : 0 + length (output_text lines) ≡ length (output_text lines) = omega arith in
     (lines, rw f, record { count = k; shown = shown_whole (asked ask) txt h.text s; texts = rw z at x.1.out_laid })
 listed_lines ask ws txt h flat flat' out out' ls ls' n entered (C.refused m) x s = absurd (none-ne-some m x.0)

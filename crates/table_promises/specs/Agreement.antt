@@ -1,5 +1,5 @@
 -- Demand 3 of the calls: what a caller reads of the lines in the lent output (rows' `lines_seen`), and what it has to do with look-up.
-use Rattle.std.specs.Prelude.{ℕ, ◌≡◌, List}
+use Rattle.std.specs.Prelude.{ℕ, ◌≡◌, List, Ok, Option}
 use Rattle.source.specs.Text.{Str}
 use Rattle.source.specs.Calls.{Found}
 use Rattle.source.specs.Table.{ModSymbol, Line}
@@ -18,20 +18,19 @@ use Rattle.table_roots.specs.Answers.{name_found, module_found}
 use Rattle.table.specs.Answers.{Finds, FindsModule}
 use Rattle.table.specs.Completions.{Completes}
 use Rattle.table.specs.declared.Table.{Table}
-use Rattle.table.specs.declared.Finding.{Finding}
-use Rattle.table.specs.declared.ModuleFinding.{ModuleFinding}
-use Rattle.table.specs.declared.Listing.{Listing}
-use Rattle.listing.specs.declared.Completed.TheVariants.{Listed}
+use Rattle.listing.specs.declared.Listed.{Listed}
+use Rattle.memory.specs.declared.ModSymbol.{ModSymbol as StoredSymbol}
+use Rattle.table.specs.declared.Answer.{Answer}
 
 -- What a caller holds of a look-up of a name that answered a.
 pub record HoldsName (ws txt : List ℕ) (tab : Table) (name : Str) (a : Found LidSymbol) : Type 0 where
-  pub reply : Finding
+  pub reply : Answer (Option LidSymbol)
   pub finds : Finds ws txt tab name reply
   pub is : name_found reply.answer ≡ a
 
 -- The same of a module or namespace.
 pub record HoldsModule (ws txt : List ℕ) (tab : Table) (name : Str) (a : Found ModSymbol) : Type 0 where
-  pub reply : ModuleFinding
+  pub reply : Answer (Option StoredSymbol)
   pub finds : FindsModule ws txt tab name reply
   pub is : module_found txt reply.answer ≡ a
 
@@ -45,9 +44,9 @@ pub record HoldsLines (ws txt : List ℕ) (tab : Table) (ask : Ask) (query : Str
   pub flat' : List ℕ
   pub out : List ℕ
   pub out' : List ℕ
-  pub reply : Listing
+  pub reply : Answer Listed
   pub completes : Completes ws txt tab (record { ask = ask; budget = budget }) query flat flat' out out' reply
-  pub listed : reply.answer ≡ Listed count entered
+  pub listed : reply.answer ≡ Ok (record { lines = count; entered = entered })
   pub read : lines_seen (asked ask) txt flat' out' count ≡ lines
 
 -- Whatever memory is lent, on either root: the lines that a completion of all kinds, or unfiltered, left there show what look-up answered.

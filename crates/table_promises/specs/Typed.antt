@@ -1,5 +1,5 @@
 -- Demand 3 of the typed completion: the lines in the line structs, and what they have to do with look-up.
-use Rattle.std.specs.Prelude.{ℕ, ◌≡◌, List, length}
+use Rattle.std.specs.Prelude.{ℕ, ◌≡◌, List, length, Ok}
 use Rattle.source.specs.Text.{Str}
 use Rattle.source.specs.Table as S
 use Rattle.source.specs.Calls.{output_text}
@@ -14,11 +14,11 @@ use Rattle.listing_ask.specs.declared.Ask.TheVariants.{Names, Modules}
 use Rattle.listing_ask.specs.declared.Filter.{Filter}
 use Rattle.listing_ask.specs.declared.Filter.TheVariants.{All}
 use Rattle.table.specs.declared.Table.{Table}
-use Rattle.table.specs.declared.Listing.{Listing}
-use Rattle.listing.specs.declared.Completed.TheVariants.{Listed}
 use Rattle.table_typed.specs.Completions.{Shown, CompletesLines}
 use Rattle.table_typed.specs.declared.Line.{Line}
 use Rattle.table_promises.specs.Agreement.{HoldsName, HoldsModule}
+use Rattle.listing.specs.declared.Listed.{Listed}
+use Rattle.table.specs.declared.Answer.{Answer}
 
 -- The n lines stand in the first line structs, and their texts from the start of the output text on.
 pub record LinesStand (w : L.Which) (txt : List ℕ) (ls ls' : List Line) (out out' : List ℕ) (n : ℕ)
@@ -39,10 +39,10 @@ pub record HoldsTyped (ws txt : List ℕ) (tab : Table) (ask : Ask) (query : Str
   pub flat' : List ℕ
   pub out : List ℕ
   pub out' : List ℕ
-  pub reply : Listing
+  pub reply : Answer Listed
   pub completes : CompletesLines ws txt tab
       (record { ask = ask; budget = budget }) query ls ls' flat flat' out out' reply
-  pub listed : reply.answer ≡ Listed count entered
+  pub listed : reply.answer ≡ Ok (record { lines = count; entered = entered })
   pub stand : LinesStand (asked ask) txt ls ls' out out' count lines
 
 -- Whatever memory is lent, on either root: lines of a completion of all kinds, or unfiltered, show look-up's answer.

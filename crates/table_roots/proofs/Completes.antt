@@ -13,7 +13,7 @@ use Rattle.listing_ask.specs.declared.Ask.{Ask}
 use Rattle.listing_ask.specs.declared.Ask.TheVariants.{Names, Modules}
 use Rattle.listing_ask.specs.declared.Request.{Request}
 use Rattle.listing.specs.Completes.{CompletesOn}
-use Rattle.listing.specs.declared.Completed.TheVariants.{Refused}
+use Rattle.std.specs.Prelude.{Err}
 use Rattle.refusals.specs.Refusals.{number}
 use Rattle.refusals.specs.declared.Refusal.{Refusal}
 use Rattle.table_roots.specs.Completions.{root_for}
@@ -24,7 +24,7 @@ use Rattle.memory_table.specs.declared.Header.{Header}
 
 pub completes_refused : {ws txt : List ℕ} {request : Request} {root : ℕ} {query : Str} {flat out : List ℕ} {x : Refusal}
     → first_row (argument_rows true (a_completion query ∷ [])) ≡ some (number x)
-    → CompletesOn ws txt request root query flat flat out out (Refused x)
+    → CompletesOn ws txt request root query flat flat out out (Err x)
 unfolding completed completion_rows
 completes_refused {query = query} e =
     record {

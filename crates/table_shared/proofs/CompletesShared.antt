@@ -16,24 +16,26 @@ use Rattle.listing_shared.specs.Shared.{CandidatesIn}
 use Rattle.listing_shared.proofs.Shared.{Leaves, leaves_shared, left_candidates}
 use Rattle.listing.specs.Completes.{output, CompletesAs}
 use Rattle.table_count.specs.LinesIn.{lines_in}
-use Rattle.listing.specs.declared.Completed.{Completed}
-use Rattle.listing.specs.declared.Completed.TheVariants.{Listed, Refused}
 use Rattle.table.specs.Header.{IsSound, table_in}
 use Rattle.table.specs.Completions.{completion, Completes}
 use Rattle.table.specs.declared.Table.{Table}
-use Rattle.table.specs.declared.Listing.{Listing}
 use Rattle.table_shared.specs.Sharing.{sharing_seen, CompletesShared}
 use Rattle.table_shared.specs.declared.Sharing.{Sharing}
+use Rattle.listing.specs.declared.Listed.{Listed}
+use Rattle.refusals.specs.declared.Refusal.{Refusal}
+use Rattle.table.specs.declared.Answer.{Answer}
+use Rattle.std.specs.Prelude.{Err, Ok, Result}
 
 module _ (ask : Ask) (ws txt flat flat' out out' : List ℕ) where
-  leaves : (r : Completed) (v : C.Completed (Item (asked ask))) → CompletesAs ask ws txt flat flat' out out' r v
+  leaves : (r : Result Listed Refusal) (v : C.Completed (Item (asked ask)))
+      → CompletesAs ask ws txt flat flat' out out' r v
       → Leaves (asked ask) ws txt flat flat' out out' (lines_in r) v
   leaves r (C.listed lines entered) a = rw a.0 (refl, a.1)
-  leaves (Listed lines entered) (C.refused n) a = absurd (none-ne-some n a.0)
-  leaves (Refused x) (C.refused n) a = refl
+  leaves (Ok listed) (C.refused n) a = absurd (none-ne-some n a.0)
+  leaves (Err x) (C.refused n) a = refl
 
 module _ {ws txt : List ℕ} {tab : Table} {request : Request} {query : Str} {flat flat' out out' : List ℕ}
-    {got : Listing}
+    {got : Answer Listed}
     (x : Completes ws txt tab request query flat flat' out out' got) where
   abbrev answer : Bool → C.Completed (Item (asked request.ask))
   answer b = completion b (table_in ws txt tab) request.ask request.budget (output flat out) query

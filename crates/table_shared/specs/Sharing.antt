@@ -10,11 +10,12 @@ use Rattle.table_count.specs.LinesIn.{lines_in}
 use Rattle.table.specs.Header.{IsSound, table_in}
 use Rattle.table.specs.Completions.{completion, Completes}
 use Rattle.table.specs.declared.Table.{Table}
-use Rattle.table.specs.declared.Listing.{Listing}
 use Rattle.table_shared.specs.declared.Sharing.{Sharing}
+use Rattle.listing.specs.declared.Listed.{Listed}
+use Rattle.table.specs.declared.Answer.{Answer}
 
 -- A listing, with what its lines share where they stand in flat and out.
-abbrev pub sharing_seen : (flat out : List ℕ) → Listing → Sharing
+abbrev pub sharing_seen : (flat out : List ℕ) → Answer Listed → Sharing
 sharing_seen flat out r = record { listing = r; shared = shared_seen flat out (lines_in r.answer) }
 
 -- In any memory: all that a completion hands back and leaves, and the shared length of the definition's answer; b says whether the memory is sound.

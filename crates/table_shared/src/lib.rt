@@ -8,18 +8,19 @@ ghost use Rattle.table_count.specs.LinesIn.{lines_in};
 ghost use Rattle.table.specs.Header.{IsSound};
 ghost use Rattle.table_shared.specs.Sharing.{sharing_seen, CompletesShared};
 
+use listing::Listed;
 use listing_ask::Request;
-use table::{Listing, Table};
+use table::{Answer, Table};
 
 // What a completion hands back, and the length of the beginning that its lines share: 0 if it lists none or is refused.
 #[derive(Clone, Copy)]
 pub struct Sharing {
-    pub listing: Listing,
+    pub listing: Answer<Listed>,
     pub shared: u32,
 }
 
 // The same of a listing whose lines stand in `flat` and `out`.
-fn sharing_of(listing: Listing, flat: &[u8], out: &[u8]) -> Sharing
+fn sharing_of(listing: Answer<Listed>, flat: &[u8], out: &[u8]) -> Sharing
     requires { CandidatesIn flat.now out.now (lines_in listing.answer) }
     ensures { result ≡ sharing_seen flat.now out.now listing }
 {

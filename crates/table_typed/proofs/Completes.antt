@@ -28,9 +28,7 @@ use Rattle.table.specs.Header.{IsSound, table_in}
 use Rattle.listing.specs.Completes.{CompletesAs}
 use Rattle.table.specs.Completions.{completion}
 use Rattle.table.specs.declared.Table.{Table}
-use Rattle.listing.specs.declared.Completed.{Completed}
 use Rattle.listing_ask.specs.declared.Request.{Request}
-use Rattle.table.specs.declared.Listing.{Listing}
 use Rattle.listing_row.specs.Rows.{words_from, item_in, row_in, ItemInside}
 use Rattle.listing_row.proofs.Rows.{item_seen_is}
 use Rattle.listing_row.proofs.Written.{written_records, written_items}
@@ -42,6 +40,10 @@ use Rattle.table_typed.specs.declared.Line.{Line}
 use Rattle.table_typed.proofs.Lines.{stored_rows}
 use Rattle.table_typed.proofs.FlatCompletes.{refused_none}
 use Rattle.table_typed.proofs.MatchLength.{Held, AnswerHeld, answer_held}
+use Rattle.listing.specs.declared.Listed.{Listed}
+use Rattle.refusals.specs.declared.Refusal.{Refusal}
+use Rattle.table.specs.declared.Answer.{Answer}
+use Rattle.std.specs.Prelude.{Result}
 
 -- ---- one line
 
@@ -79,7 +81,7 @@ rows_inside : (w : Which) (txt : List ℕ) (rows : List (List ℕ)) → Allˡ (�
 rows_inside w txt [] a = tt
 rows_inside w txt (r ∷ rows) a = (a.0, rows_inside w txt rows a.1)
 
-module _ (ask : Ask) (ws txt flat flat' out out' : List ℕ) (r : Completed) (ls ls' : List Line) where
+module _ (ask : Ask) (ws txt flat flat' out out' : List ℕ) (r : Result Listed Refusal) (ls ls' : List Line) where
   shown : (lines : List (S.Line (Item (asked ask)))) → Written (asked ask) ws txt flat flat' out out' 0 0 lines
       → Allˡ (λ l. Held l.match_length) lines
       → length lines ≤ length ls → ls' ≡ stored_lines (line_at ask flat') ls (length lines)
@@ -120,7 +122,7 @@ all_held ws txt tab ask query budget false s o = go ask
     go (Names f) = tt
     go (Modules f) = tt
 
-module _ {ws txt : List ℕ} {tab : Table} {q : Request} {query : Str} {flat flat' out out' : List ℕ} {r : Listing}
+module _ {ws txt : List ℕ} {tab : Table} {q : Request} {query : Str} {flat flat' out out' : List ℕ} {r : Answer Listed}
     {n : ℕ} where
   pub asked_at : {room : ℕ} → FlatCompletes ws txt tab q query room flat flat' out out' r → n ≡ lines_in r.answer
       → length flat' ≡ length flat → (n ≤ room) × (n * line_bytes ≤ length flat')

@@ -24,13 +24,14 @@ use Rattle.listing.specs.Completes.{CompletesAs, refused_by}
 use Rattle.table.specs.Completions.{completion}
 use Rattle.table.specs.declared.Table.{Table}
 use Rattle.refusals.specs.declared.Refusal.TheVariants.{Unsound}
-use Rattle.listing.specs.declared.Completed.{Completed}
-use Rattle.listing.specs.declared.Completed.TheVariants.{Listed, Refused}
 use Rattle.listing_ask.specs.declared.Request.{Request}
-use Rattle.table.specs.declared.Listing.{Listing}
 use Rattle.table.proofs.Says.{says_same}
 use Rattle.table_count.specs.LinesIn.{lines_in}
 use Rattle.table_typed.specs.Completions.{output, FlatCompletes}
+use Rattle.listing.specs.declared.Listed.{Listed}
+use Rattle.refusals.specs.declared.Refusal.{Refusal}
+use Rattle.table.specs.declared.Answer.{Answer}
+use Rattle.std.specs.Prelude.{Err, Ok, Result}
 
 -- What is written at the start of the part stands at the start of the whole.
 laid_front : {d f s : List ℕ} {k r : ℕ} → k ≤ length d → Laid (take k d) f 0 r s → Laid d (f ++ drop k d) 0 r s
@@ -43,11 +44,11 @@ laid_front {d} {f} {s} {k} {r} h x = record {
 }
 
 -- A refusal lists no line.
-pub refused_none : (r : Completed) {n : ℕ} → refused_by r ≡ some n → lines_in r ≡ 0
-refused_none (Listed lines entered) {n} e = absurd (none-ne-some n e)
-refused_none (Refused x) e = refl
+pub refused_none : (r : Result Listed Refusal) {n : ℕ} → refused_by r ≡ some n → lines_in r ≡ 0
+refused_none (Ok listed) {n} e = absurd (none-ne-some n e)
+refused_none (Err x) e = refl
 
-module _ (ask : Ask) (ws txt flat f out out' : List ℕ) (r : Completed) (k : ℕ) where
+module _ (ask : Ask) (ws txt flat f out out' : List ℕ) (r : Result Listed Refusal) (k : ℕ) where
   part_as : k ≤ length flat → (x : C.Completed (Item (asked ask))) → CompletesAs ask ws txt (take k flat) f out out' r x
       → CompletesAs ask ws txt flat (f ++ drop k flat) out out' r x
   part_as h (C.listed lines entered) c = (
@@ -75,14 +76,14 @@ output_part room k flat out h e =
     ap (λ m. record { lines = min m 4294967295; text = min (length out) 4294967295 }) n
 
 module _ {ws txt : List ℕ} {tab : Table} {q : Request} {query : Str} {room : ℕ} {flat out : List ℕ} where
-  pub flat_completes : {f out' : List ℕ} {r : Listing} {k : ℕ} → IsSound ws txt tab
+  pub flat_completes : {f out' : List ℕ} {r : Answer Listed} {k : ℕ} → IsSound ws txt tab
       → k ≡ min (length flat / line_bytes) room * line_bytes
       → T.Completes ws txt tab q query (take k flat) f out out' r
       → FlatCompletes ws txt tab q query room flat (f ++ drop k flat) out out' r
   flat_completes {f} {out'} {r} {k} o e c =
       let ask : Ask = q.ask in
       let budget : ℕ = q.budget in
-      let a : Completed = r.answer in
+      let a : Result Listed Refusal = r.answer in
       let ws' : List ℕ = used_words ws tab.header in
       let txt' : List ℕ = used_text txt tab.header in
       let h : k ≤ length flat = omega (arith, e) in
@@ -106,11 +107,11 @@ module _ {ws txt : List ℕ} {tab : Table} {q : Request} {query : Str} {room : �
 
   -- A memory that is not sound.
   pub flat_unsound : (IsSound ws txt tab → ⊥)
-      → FlatCompletes ws txt tab q query room flat flat out out (record { table = tab; answer = Refused Unsound })
+      → FlatCompletes ws txt tab q query room flat flat out out (record { table = tab; answer = Err Unsound })
   unfolding complete complete_modules completed completion_rows first_row argument_rows
   flat_unsound o = record {
     table = refl;
-    says = λ b s. subst (λ x. CompletesAs q.ask (used_words ws tab.header) (used_text txt tab.header) flat flat out out (Refused Unsound)
+    says = λ b s. subst (λ x. CompletesAs q.ask (used_words ws tab.header) (used_text txt tab.header) flat flat out out (Err Unsound)
         (completion x (table_in ws txt tab) q.ask q.budget (output room flat out) query)) (sym (says_same _ b false s o)) (go q.ask);
     fit = zero-le;
     lent = zero-le;
@@ -118,7 +119,7 @@ module _ {ws txt : List ℕ} {tab : Table} {q : Request} {query : Str} {room : �
     where
       go : (ask : Ask)
           → CompletesAs ask (used_words ws tab.header) (used_text txt tab.header) flat flat out out
-          (Refused Unsound)
+          (Err Unsound)
           (completion false (table_in ws txt tab) ask q.budget (output room flat out) query)
       go (Names f) = (refl, refl, refl)
       go (Modules f) = (refl, refl, refl)

@@ -18,10 +18,11 @@ use Rattle.listing.specs.Completes.{CompletesAs}
 use Rattle.table.specs.Completions.{completion}
 use Rattle.table.specs.declared.Table.{Table}
 use Rattle.listing_ask.specs.declared.Request.{Request}
-use Rattle.table.specs.declared.Listing.{Listing}
 use Rattle.table_typed.specs.declared.Line.{Line}
 use Rattle.table_count.specs.LinesIn.{lines_in}
 use Rattle.table_typed.specs.Lines.{record_seen}
+use Rattle.listing.specs.declared.Listed.{Listed}
+use Rattle.table.specs.declared.Answer.{Answer}
 
 -- The output lent: a line takes a line struct and 48 bytes; lines and bytes past those that 32 bits count are not lent.
 abbrev pub output : (room : ℕ) (flat out : List ℕ) → Output
@@ -45,7 +46,7 @@ module _ (ws txt : List ℕ) (tab : Table) (q : Request) (query : Str) where
   answer b out = completion b (table_in ws txt tab) q.ask q.budget out query
 
   -- The completion into bytes, lent for at most so many lines; the table comes back as it was.
-  pub record FlatCompletes (room : ℕ) (flat flat' out out' : List ℕ) (r : Listing) : Type 0 where
+  pub record FlatCompletes (room : ℕ) (flat flat' out out' : List ℕ) (r : Answer Listed) : Type 0 where
     pub table : r.table ≡ tab
     pub says : (b : Bool) → Says b (IsSound ws txt tab)
         → CompletesAs q.ask (used_words ws tab.header) (used_text txt tab.header) flat flat' out out'
@@ -55,7 +56,7 @@ module _ (ws txt : List ℕ) (tab : Table) (q : Request) (query : Str) where
     pub lent : lines_in r.answer * line_bytes ≤ length flat
 
   -- The completion into line structs: as into bytes (roots' CompletesAs), and the lines are shown, their items' texts in the used text.
-  pub record CompletesLines (ls ls' : List Line) (flat flat' out out' : List ℕ) (r : Listing) : Type 0 where
+  pub record CompletesLines (ls ls' : List Line) (flat flat' out out' : List ℕ) (r : Answer Listed) : Type 0 where
     pub table : r.table ≡ tab
     pub says : (b : Bool) → Says b (IsSound ws txt tab)
         → CompletesAs q.ask (used_words ws tab.header) (used_text txt tab.header) flat flat' out out'

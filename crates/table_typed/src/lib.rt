@@ -6,12 +6,12 @@ ghost use Rattle.listing_output.specs.Output.{line_bytes};
 ghost use Rattle.table_typed.specs.Lines.{line_of_row, line_at, stored_lines};
 ghost use Rattle.table_typed.specs.Completions.{FlatCompletes, CompletesLines};
 
-use listing::Completed;
+use listing::Listed;
 use listing_ask::{Ask, Request};
 use listing_row::{Row, RowItem};
 use memory::Span;
 use refusals::Refusal;
-use table::{Listing, Table};
+use table::{Answer, Table};
 
 // A line record. Its spans are in the output text.
 #[derive(Clone, Copy)]
@@ -26,15 +26,11 @@ pub struct Line {
 fn line_of(r: Row) -> Line
     ensures { result ≡ line_of_row r }
 {
-    let long = table_count::match_length(r.matched);
-    let item = r.item;
-    let candidate = r.candidate;
-    let annotation = r.annotation;
     Line {
-        match_length: long,
-        item: item,
-        candidate: candidate,
-        annotation: annotation,
+        match_length: table_count::match_length(r.matched),
+        item: r.item,
+        candidate: r.candidate,
+        annotation: r.annotation,
     }
 }
 
@@ -59,11 +55,8 @@ pub fn store_lines(lines: &mut [Line], flat: &[u8], n: usize, ask: Ask)
     requires { (n ≤ length lines.old) × (n * line_bytes ≤ length flat.now) }
     ensures { lines.new ≡ stored_lines (line_at ask flat.now) lines.old n }
 {
-    let mut i = 0;
-    while i < n {
-        let line = line_at(flat, i, ask);
-        store_line(lines, i, line);
-        i += 1;
+    for i in 0..n {
+        store_line(lines, i, line_at(flat, i, ask));
     }
 }
 
@@ -77,7 +70,7 @@ fn complete_flat(
     room: usize,
     flat: &mut [u8],
     out: &mut [u8],
-) -> Listing
+) -> Answer<Listed>
     ensures { FlatCompletes words.now text.now table request query.now room
         flat.old flat.new out.old out.new result }
 {
@@ -85,9 +78,9 @@ fn complete_flat(
         let lent = table_count::bytes_for(flat.len(), room);
         return table.complete_sound(words, text, request, query, &mut flat[..lent], out);
     }
-    Listing {
+    Answer {
         table: table,
-        answer: Completed::Refused(Refusal::Unsound),
+        answer: Err(Refusal::Unsound),
     }
 }
 
@@ -101,7 +94,7 @@ pub fn complete(
     lines: &mut [Line],
     flat: &mut [u8],
     out: &mut [u8],
-) -> Listing
+) -> Answer<Listed>
     ensures { CompletesLines words.now text.now table request query.now lines.old lines.new
         flat.old flat.new out.old out.new result }
 {

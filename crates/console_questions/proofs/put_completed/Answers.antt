@@ -5,18 +5,18 @@ use Rattle.console_questions.proofs.put_completed.Goals as goal
 
 pub put_rows-e-requires : goal.put_rows-e-requires
 put_rows-e-requires c =
-    let p = rw c.in-Listed.is at c.requires.rows_shown in
+    let p = rw c.in-Ok.is at c.requires.rows_shown in
     record { rows_in = p.0; n_in_bounds = omega (arith, p.1, c.requires.pane_in_bounds) }
 
 pub put_end-requires : goal.put_end-requires
 put_end-requires c =
-    let p = rw c.in-Listed.is at c.requires.rows_shown in
+    let p = rw c.in-Ok.is at c.requires.rows_shown in
     omega (arith, c.put_rows-e.ensures.1, p.1, c.requires.pane_in_bounds, laid_length c.put_rows-e.ensures.0)
 
-pub returns-in-Listed : goal.returns-in-Listed
-returns-in-Listed c =
-    rw c.in-Listed.is (laid_more c.put_rows-e.ensures.0 c.put_end.ensures)
+pub returns-in-Ok : goal.returns-in-Ok
+returns-in-Ok c =
+    rw c.in-Ok.is (laid_more c.put_rows-e.ensures.0 c.put_end.ensures)
 
-pub returns-in-Refused : goal.returns-in-Refused
-returns-in-Refused c =
-    rw c.in-Refused.is (rw c.from-n.ensures at c.put_refused.ensures)
+pub returns-in-Err : goal.returns-in-Err
+returns-in-Err c =
+    rw c.in-Err.is (rw c.from-n.ensures at c.put_refused.ensures)

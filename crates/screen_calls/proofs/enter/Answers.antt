@@ -21,17 +21,17 @@ save-requires c =
       state_len = pre.state_len;
       record_words_in_bounds = store_fits (held_is pre.state_len c.table_of-t.ensures pre.memory_value)
           (says_holds c.is_sound_small.result c.is_sound_small.ensures c.if-not-is_sound_small.false) c.register_sound-r.ensures
-          (ap refusal_of c.in-Accepted.is) c.register_sound-r.auto.words;
+          (ap refusal_of c.in-Ok.is) c.register_sound-r.auto.words;
     }
 
-pub returns-in-Accepted : goal.returns-in-Accepted
-returns-in-Accepted c =
+pub returns-in-Ok : goal.returns-in-Ok
+returns-in-Ok c =
     reply_accepted (held_is c.requires.state_len c.table_of-t.ensures c.requires.memory_value)
     (says_holds c.is_sound_small.result c.is_sound_small.ensures c.if-not-is_sound_small.false) c.register_sound-r.ensures
-    (ap refusal_of c.in-Accepted.is) c.save.ensures
+    (ap refusal_of c.in-Ok.is) c.save.ensures
 
-pub returns-in-Refused : goal.returns-in-Refused
-returns-in-Refused c =
+pub returns-in-Err : goal.returns-in-Err
+returns-in-Err c =
     reply_refused (held_is c.requires.state_len c.table_of-t.ensures c.requires.memory_value)
     (says_holds c.is_sound_small.result c.is_sound_small.ensures c.if-not-is_sound_small.false) c.register_sound-r.ensures
-    (ap refusal_of c.in-Refused.is) c.from.ensures
+    (ap refusal_of c.in-Err.is) c.from.ensures

@@ -2,6 +2,7 @@
 use mathlib.Core.Path.{sym}
 use native.Mathlib.Omega.{arith}
 use lib.Seq.{length-take-le}
+use Rattle.std.proofs.lemmas.Result.{err_from_is_err_and}
 use Rattle.refusals.proofs.Rows.{one_flagged, admitted_none, refused_lowest}
 use Rattle.memory_table.proofs.UsedPart.{used_part_sound}
 use Rattle.table_roots.proofs.Completes.{completes_refused, root_trie}
@@ -33,14 +34,15 @@ pub complete-requires : goal.complete-requires
 complete-requires c =
     record {
       at = rw c.root_for-root.ensures (root_trie (used_part_sound c.requires) c.args.request.ask);
-      query_value = admitted_none (one_flagged c.completion_flags.ensures) c.admit-a.ensures c.in-Ok.is;
+      query_value = admitted_none (one_flagged c.completion_flags.ensures) c.admit.ensures c.in_ok-admit.was;
     }
 
-pub returns-in-Err : goal.returns-in-Err
-returns-in-Err c =
-    completes_refused (refused_lowest (one_flagged c.completion_flags.ensures)
-    c.admit-a.ensures c.in-Err.is)
+pub returns-in_err-admit : goal.returns-in_err-admit
+returns-in_err-admit c =
+    let p = err_from_is_err_and c.from_residual.result c.from_residual.ensures.1 in
+    rw (p.1, p.2) (completes_refused (refused_lowest (one_flagged c.completion_flags.ensures)
+    c.admit.ensures c.in_err-admit.was))
 
-pub returns-in-Ok : goal.returns-in-Ok
-returns-in-Ok c =
+pub returns : goal.returns
+returns c =
     rw c.root_for-root.ensures at c.complete.ensures

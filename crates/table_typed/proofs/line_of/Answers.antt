@@ -34,4 +34,4 @@ line_made r e = rw (e, to_z-of_z w32 (held_length r.matched) (length-fits r.matc
 
 pub returns : goal.returns
 returns c =
-    line_made c.args.r c.match_length-long.ensures
+    line_made c.args.r c.match_length.ensures
