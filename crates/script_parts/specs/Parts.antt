@@ -16,6 +16,10 @@ use Rattle.script_decimal.specs.Items.{ItemText}
 abbrev pub run_length : Sort → Str → ℕ
 run_length sort s = prefix_len (byte_ok sort) s
 
+-- What follows the word that s begins with, or that it does not.
+abbrev pub WordSays : Str → Str → Option (Bor Str) → Type 0
+WordSays s word r = MatchOption r ((rest : Str) → s ≡ word · rest → ⊥) (λ rest. s ≡ word · rest.now)
+
 -- The text begins with a byte that may not stand in the part before it.
 abbrev pub Stops : Sort → Str → Type 0
 Stops sort [] = ⊥

@@ -2,7 +2,7 @@
 #![tactic(auto)]
 
 ghost use Rattle.std.specs.Prelude.{◌≡◌};
-ghost use Rattle.script_parts.specs.Parts.{run_length, Stops, PieceSays, QuerySays, PairSays, LastSays, NumberedSays, ItemSays, IdSays};
+ghost use Rattle.script_parts.specs.Parts.{run_length, Stops, WordSays, PieceSays, QuerySays, PairSays, LastSays, NumberedSays, ItemSays, IdSays};
 ghost use Rattle.script_decimal.specs.Bytes.{LineEnd};
 
 use script_decimal::digits::numeral;
@@ -30,17 +30,25 @@ fn run(s: &[u8], sort: Sort) -> usize
     s.iter().take_while(|b| byte_ok(sort, **b)).count()
 }
 
+// What follows `word`, where `s` begins with it.
+pub fn word_end<'a>(s: &'a [u8], word: &[u8]) -> Option<&'a [u8]>
+    ensures { WordSays s.now word.now result }
+{
+    s.strip_prefix(word)
+}
+
 // The part at the start of `s`, where `close` follows it, and what follows that.
 pub fn piece<'a>(s: &'a [u8], sort: Sort, close: &[u8]) -> Option<(&'a [u8], &'a [u8])>
     requires { Stops sort close.now }
     ensures { PieceSays sort close.now s.now result }
 {
     let (part, closed) = s.split_at(run(s, sort));
-    let rest = closed.strip_prefix(close)?;
+    let rest = word_end(closed, close)?;
     Some((part, rest))
 }
 
 // The query that the two brackets at the end of `s` close.
+#[tactic(auto, unfolding(script_decimal::specs::Bytes::byte_ok))]
 pub fn query_end(s: &[u8]) -> Option<&[u8]>
     ensures { QuerySays s.now result }
 {
@@ -52,6 +60,7 @@ pub fn query_end(s: &[u8]) -> Option<&[u8]>
 }
 
 // A host and a query, up to the two brackets at the end of `s`.
+#[tactic(auto, unfolding(script_decimal::specs::Bytes::byte_ok))]
 pub fn pair_end(s: &[u8]) -> Option<Pair<'_>>
     ensures { PairSays s.now result }
 {
@@ -88,6 +97,7 @@ pub fn item_of(text: &[u8]) -> Option<LidSymbol>
 }
 
 // An id and an item, up to the bracket at the end of `s`.
+#[tactic(auto, unfolding(script_decimal::specs::Bytes::byte_ok))]
 pub fn id_end(s: &[u8]) -> Option<Tail<'_>>
     ensures { IdSays s.now result }
 {

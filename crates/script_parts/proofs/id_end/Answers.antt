@@ -1,11 +1,8 @@
 -- `id_end`: a part that is not empty, and an item behind it.
 use Rattle.std.proofs.Common.{arith, sym, ◌∙◌}
 use borrow.Author.Tests.{eqb-true, eqb-false}
-use Rattle.script_parts.proofs.Parts.{stops_word, id_piece, id_yes, id_empty, id_open, id_item}
+use Rattle.script_parts.proofs.Parts.{id_piece, id_yes, id_empty, id_open, id_item}
 use Rattle.script_parts.proofs.id_end.Goals as goal
-
-pub piece-requires : goal.piece-requires
-piece-requires c = stops_word
 
 pub returns-in_err-id : goal.returns-in_err-id
 returns-in_err-id c =

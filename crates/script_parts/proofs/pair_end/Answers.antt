@@ -1,9 +1,6 @@
 -- `pair_end`: a part, and a query behind it.
-use Rattle.script_parts.proofs.Parts.{stops_query, pair_piece, pair_yes, pair_no}
+use Rattle.script_parts.proofs.Parts.{pair_piece, pair_yes, pair_no}
 use Rattle.script_parts.proofs.pair_end.Goals as goal
-
-pub piece-requires : goal.piece-requires
-piece-requires c = stops_query
 
 pub returns-in_err-host : goal.returns-in_err-host
 returns-in_err-host c =

@@ -1,11 +1,8 @@
 -- `query_end`: nothing may follow the two brackets.
 use Rattle.std.proofs.Common.{sym, ◌∙◌}
 use borrow.Author.Tests.{eqb-true, eqb-false}
-use Rattle.script_parts.proofs.Parts.{stops_query, query_piece, query_yes, query_no}
+use Rattle.script_parts.proofs.Parts.{query_piece, query_yes, query_no}
 use Rattle.script_parts.proofs.query_end.Goals as goal
-
-pub piece-requires : goal.piece-requires
-piece-requires c = stops_query
 
 pub returns-in_err-query : goal.returns-in_err-query
 returns-in_err-query c =
