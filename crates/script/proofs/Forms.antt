@@ -172,8 +172,8 @@ module _ {line begun : Str} (o : Only line AliasKey) (w : line ≡ key AliasKey 
       → ⊥
   alias_none n = reads_refused o (λ c k. n _ _ (alias_piece k.4 (after (key AliasKey) w k.4.spelled)))
 
-  module _ {word rest : Str} (p : Piece Word (32 ∷ 91 ∷ []) begun word rest) where
-    pub alias_empty : length word ≡ 0 → (c : Command) → Reads line c → ⊥
+  module _ {part rest : Str} (p : Piece Word (32 ∷ 91 ∷ []) begun part rest) where
+    pub alias_empty : length part ≡ 0 → (c : Command) → Reads line c → ⊥
     alias_empty h = reads_refused o (λ c k. omega (
       arith,
       k.4.word_some,
@@ -184,11 +184,11 @@ module _ {line begun : Str} (o : Only line AliasKey) (w : line ≡ key AliasKey 
     alias_no n = reads_refused o (λ c k. n k.1 k.2
         (alias_pair k.4 (piece_once Word stops_word p (alias_piece k.4 (after (key AliasKey) w k.4.spelled))).1))
 
-    pub alias_yes : {host q : Str} → (length word ≡ 0 → ⊥) → PairEnd rest host q
-        → RegistrationLine line kind.Alias host q word
+    pub alias_yes : {host q : Str} → (length part ≡ 0 → ⊥) → PairEnd rest host q
+        → RegistrationLine line kind.Alias host q part
     unfolding bytes
     alias_yes {host} {q} some r = record {
-      command = alias word host q;
+      command = alias part host q;
       reads = record {
         short = o.short;
         spelled = record {
@@ -196,7 +196,7 @@ module _ {line begun : Str} (o : Only line AliasKey) (w : line ≡ key AliasKey 
           word_some = omega arith;
           host_ok = r.host_ok;
           query_ok = r.query_ok;
-          spelled = w ∙ ap (λ (t : Str). key AliasKey · t) (p.spelled ∙ ap (λ (t : Str). word · 32 ∷ 91 ∷ t) r.spelled);
+          spelled = w ∙ ap (λ (t : Str). key AliasKey · t) (p.spelled ∙ ap (λ (t : Str). part · 32 ∷ 91 ∷ t) r.spelled);
         };
       };
       of_kind = (refl, refl, refl, refl);
