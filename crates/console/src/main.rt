@@ -41,22 +41,13 @@ fn reply_all<W: Write>(
     ensures { Rests words.old text.old words.new text.new input.old input.new
         (output flat.old pane.old) f result }
 {
-    let mut g = f;
+    let mut feed = f;
     loop {
-        let r = console_feed::step(g, words, text, input, flat, pane, reply);
-        let e = r.end;
-        g = r.feed;
-        if let Err(fault) = console_streams::put(to, &reply[..e]) {
-            return AfterRead {
-                feed: g,
-                written: Err(fault),
-            };
-        }
-        if !r.more {
-            return AfterRead {
-                feed: g,
-                written: Ok(()),
-            };
+        let r = console_feed::step(feed, words, text, input, flat, pane, reply);
+        feed = r.feed;
+        let written = console_streams::put(to, &reply[..r.end]);
+        if written.is_err() || !r.more {
+            return AfterRead { feed, written };
         }
     }
 }
@@ -79,8 +70,7 @@ fn reply_last<W: Write>(
         pane.old pane.new reply.old reply.new result }
 {
     let d = console_feed::last(f, words, text, input, flat, pane, reply);
-    let e = d.end;
-    console_streams::put(to, &reply[..e])
+    console_streams::put(to, &reply[..d.end])
 }
 
 // Reads and replies to the end of the input, or to the first fault.
@@ -95,19 +85,16 @@ fn talk(rt: HostRuntime) {
     let mut input = [0u8; 65536];
     let mut table = Table::fresh();
     let mut have: usize = 0;
-    let mut left: u64 = 18446744073709551615;
-    while 0 < left {
-        left -= 1;
+    for _ in 0..u64::MAX {
         match console_streams::fill(&mut from, &mut input, have) {
+            Err(e) if e.kind() == ErrorKind::Interrupted => {}
             Err(e) => {
-                if e.kind() != ErrorKind::Interrupted {
-                    fault::say(&mut rt.stderr(), b"console: standard input", e);
-                    return;
-                }
+                fault::say(&mut rt.stderr(), b"console: standard input", e);
+                return;
             }
             Ok(got) => {
                 let f = Feed {
-                    table: table,
+                    table,
                     from: 0,
                     have: got,
                 };
@@ -127,9 +114,8 @@ fn talk(rt: HostRuntime) {
                     fault::say(&mut rt.stderr(), b"console: standard output", e);
                     return;
                 }
-                let rest = r.feed;
-                table = rest.table;
-                have = rest.have;
+                table = r.feed.table;
+                have = r.feed.have;
             }
         }
     }
@@ -138,20 +124,13 @@ fn talk(rt: HostRuntime) {
 fn main(rt: HostRuntime) {
     let mut arg = [0u8; 4096];
     match rt.arg(1, &mut arg) {
-        Ok(n) => {
-            if help::asked(&arg[..n]) {
-                help::print(&mut rt.stdout());
-                return;
-            }
+        Ok(n) if help::asked(&arg[..n]) => help::print(&mut rt.stdout()),
+        Err(FillError::NotPresent) => talk(rt),
+        Ok(_) | Err(FillError::TooLong) => {
+            let _ = console_streams::put(
+                &mut rt.stderr(),
+                b"console: unknown argument; --help says what it reads\n",
+            );
         }
-        Err(FillError::NotPresent) => {
-            talk(rt);
-            return;
-        }
-        Err(FillError::TooLong) => {}
     }
-    let _ = console_streams::put(
-        &mut rt.stderr(),
-        b"console: unknown argument; --help says what it reads\n",
-    );
 }

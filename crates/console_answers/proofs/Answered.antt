@@ -12,8 +12,6 @@ use Rattle.script_decimal.specs.Bytes.{Str}
 use Rattle.script.specs.Script.{Command, name, import, alias, module_path, ask, Reads, import_kind, OfKind, RegistrationLine}
 use Rattle.script.specs.declared.Import.{Import}
 use Rattle.script.specs.declared.Import.TheVariants.{Include, OpenModule, OpenNamespace}
-use Rattle.script_parts.specs.Parts.{part_of}
-use Rattle.script_parts.specs.declared.Extent.{Extent}
 use Rattle.register_kind.specs.declared.CallKind.{CallKind}
 use Rattle.register_kind.specs.Shapes.{call_of}
 use Rattle.register_kind.proofs.Shapes.{open_module_is_include}
@@ -32,10 +30,6 @@ use Rattle.console_questions.specs.Questions.{asked_text}
 use Rattle.console_questions.specs.Left.{OutputKept, AskedLine}
 use Rattle.console_answers.specs.Outcomes.{import_call, outcome, command_call, Accepted, NoCompletion}
 use Rattle.console_answers.specs.Answers.{AsksLeave, Answered}
-
-pub ask_reads : {line : Str} {what : Question} {q q' : Str} → q ≡ q' → Reads line (ask what q')
-    → Reads line (ask what q)
-ask_reads p r = rw p r
 
 -- The call that a command asks for is registered as that of the kind and the texts.
 record IsCall (c : Command) (k : CallKind) (h o y : Str) : Type 0 where
@@ -108,21 +102,20 @@ module _ {ws txt ws' txt' flat flat' pane pane' reply reply' : List ℕ} {tab : 
 -- A line that says a registration.
 module _ {ws txt ws' txt' reply reply' : List ℕ} {tab : Table} {line : Str} {at : ℕ} {r : Done}
     (flat pane : List ℕ) where
-  pub answered_call : {k : CallKind} {host other key : Extent} {h o y : Str} → RegistrationLine line k host other key
-      → h ≡ part_of line host → o ≡ part_of line other → y ≡ part_of line key
-      → Registers ws txt ws' txt' tab (call_of k h o y) reply reply' at r
+  pub answered_call : {k : CallKind} {host other key : Str} → RegistrationLine line k host other key
+      → Registers ws txt ws' txt' tab (call_of k host other key) reply reply' at r
       → Answered ws txt ws' txt' tab line flat flat pane pane reply reply' at r
-  answered_call {k} {host} {other} {key} {h} {o} {y} l p q z x =
+  answered_call {k} {host} {other} {key} l x =
       answered_by l.reads leaves (go (register true (lent ws txt) (state ws txt tab) i.call) refl)
       (λ what u e. absurd (no_question what u e)) (λ _. kept)
     where
       no_question : (what : Question) (u : Str) → Reads line (ask what u) → ⊥
       no_question what u e =
-          subst (λ (d : Command). OfKind d k (part_of line host) (part_of line other) (part_of line key))
+          subst (λ (d : Command). OfKind d k host other key)
           (reads_once line l.command (ask what u) l.reads e) l.of_kind
 
-      i : IsCall l.command k h o y
-      i = rw (p, q, z) (is_call l.command l.of_kind)
+      i : IsCall l.command k host other key
+      i = is_call l.command l.of_kind
 
       leaves : Leaves ws txt ws' txt' tab reply reply' at
           (outcome (lent ws txt) (output flat pane) (state ws txt tab) l.command) r

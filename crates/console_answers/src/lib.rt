@@ -2,8 +2,7 @@
 // A line that is no form is `[bad]`, and changes nothing.
 #![tactic(auto)]
 
-ghost use Rattle.std.specs.Prelude.{◌≡◌, ◌+◌, ◌≤◌, length};
-ghost use Rattle.script_parts.specs.Parts.{Within, part_of};
+ghost use Rattle.std.specs.Prelude.{◌+◌, ◌≤◌, length};
 ghost use Rattle.table.specs.Header.{IsSound};
 ghost use Rattle.console_questions.specs.RowReplies.{room};
 ghost use Rattle.console_answers.specs.Answers.{Answered, Talked};
@@ -12,7 +11,6 @@ use console_questions::Asking;
 use console_registrations::Done;
 use register_kind::Entry;
 use script::LineForm;
-use script_parts::Extent;
 use table::Table;
 
 // The table after some lines of an input, where their replies end, and where the next line starts.
@@ -21,16 +19,6 @@ pub struct AfterLines {
     pub table: Table,
     pub end: usize,
     pub next: usize,
-}
-
-// The bytes of a part of the line.
-fn part(line: &[u8], s: Extent) -> &[u8]
-    requires { Within line.now s }
-    ensures { result.now ≡ part_of line.now s }
-{
-    let a = s.start;
-    let e = a + s.len;
-    &line[a..e]
 }
 
 // The answer to a line, without its line feed: its call is made and its reply written at `at`. The lines of a
@@ -50,55 +38,34 @@ pub fn answer(
     ensures { Answered words.old text.old words.new text.new table line.now flat.old flat.new
         pane.old pane.new reply.old reply.new at result }
 {
-    let form = script::parse(line);
-    match form {
-        LineForm::Register {
-            kind,
+    match script::parse(line) {
+        Some(
+            LineForm::Register {
+                kind,
+                host,
+                other,
+                key,
+            },
+        ) => console_registrations::register_line(
+            Done { table, end: at },
+            words,
+            text,
+            Entry { kind },
             host,
             other,
             key,
-        } => {
-            let start = Done {
-                table: table,
-                end: at,
-            };
-            console_registrations::register_line(
-                start,
-                words,
-                text,
-                Entry { kind: kind },
-                part(line, host),
-                part(line, other),
-                part(line, key),
-                reply,
-            )
-        }
-        LineForm::Ask { what, query } => {
-            let start = Asking {
-                table: table,
-                at: at,
-            };
-            let e = console_questions::ask_line(
-                start,
-                words,
-                text,
-                what,
-                part(line, query),
-                flat,
-                pane,
-                reply,
+            reply,
+        ),
+        Some(LineForm::Ask { what, query }) => {
+            let start = Asking { table, at };
+            let end = console_questions::ask_line(
+                start, words, text, what, query, flat, pane, reply,
             );
-            Done {
-                table: table,
-                end: e,
-            }
+            Done { table, end }
         }
-        LineForm::Bad => {
-            let e = script_replies::put_bad(reply, at);
-            Done {
-                table: table,
-                end: e,
-            }
+        None => {
+            let end = script_replies::put_bad(reply, at);
+            Done { table, end }
         }
     }
 }

@@ -3,9 +3,10 @@ use Prim.Native.Nat.{◌<◌}
 use mathlib.Core.Path.{◌≡◌, refl}
 use mathlib.Core.List.{[], ◌∷◌}
 use native.Mathlib.Omega.{arith}
-use lib.Dec.{ltb}
+use mathlib.Core.Bool.{Bool, not}
+use lib.Dec.{eqb}
 use lib.ListN.{length}
-use borrow.Author.Tests.{lt-ltb}
+use borrow.Author.Tests.{ne_eqb}
 use Rattle.source.specs.Text.{Str}
 use Rattle.console_backlog.specs.LastLine.{last_line, LastLine}
 
@@ -14,6 +15,6 @@ last_some [] h = absurd (omega arith)
 last_some (b ∷ s) h = refl
 
 -- The bytes left are a line if there are any.
-pub is_line : (s : Str) → LastLine (ltb 0 (length s)) s
-is_line [] = refl
-is_line (b ∷ s) = rw (lt-ltb 0 (length (b ∷ s)) (omega arith)) refl
+pub is_line : (s : Str) (empty : Bool) → empty ≡ eqb (length s) 0 → LastLine (not empty) s
+is_line [] empty e = rw e refl
+is_line (b ∷ s) empty e = rw (e, ne_eqb (length (b ∷ s)) 0 (λ h. omega arith)) refl

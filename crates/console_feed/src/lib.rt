@@ -44,31 +44,36 @@ pub fn step(
     ensures { Feeds words.old text.old words.new text.new f input.old input.new flat.old flat.new
         pane.old pane.new reply.old reply.new result }
 {
-    let t = f.table;
-    let from = f.from;
-    let have = f.have;
-    let r = console_answers::answer_lines(t, words, text, &input[..have], from, flat, pane, reply);
-    let after = r.table;
+    let Feed { table, from, have } = f;
+    let r = console_answers::answer_lines(
+        table,
+        words,
+        text,
+        &input[..have],
+        from,
+        flat,
+        pane,
+        reply,
+    );
+    let table = r.table;
     if from < r.next {
-        let on = Feed {
-            table: after,
-            from: r.next,
-            have: have,
-        };
         return Progress {
-            feed: on,
+            feed: Feed {
+                table,
+                from: r.next,
+                have,
+            },
             end: r.end,
             more: true,
         };
     }
-    let n = console_backlog::keep(input, from, have);
-    let rest = Feed {
-        table: after,
-        from: 0,
-        have: n,
-    };
+    let kept = console_backlog::keep(input, from, have);
     Progress {
-        feed: rest,
+        feed: Feed {
+            table,
+            from: 0,
+            have: kept,
+        },
         end: r.end,
         more: false,
     }
@@ -91,11 +96,10 @@ pub fn last(
     ensures { Ends words.old text.old words.new text.new f input.now flat.old flat.new
         pane.old pane.new reply.old reply.new result }
 {
-    let t = f.table;
-    let from = f.from;
-    let have = f.have;
-    if console_backlog::is_line(&input[from..have]) {
-        return console_answers::answer(t, words, text, &input[from..have], flat, pane, reply, 0);
+    let Feed { table, from, have } = f;
+    let left = &input[from..have];
+    if console_backlog::is_line(left) {
+        return console_answers::answer(table, words, text, left, flat, pane, reply, 0);
     }
-    Done { table: t, end: 0 }
+    Done { table, end: 0 }
 }

@@ -26,26 +26,21 @@ pub fn put<W: Write>(to: &mut W, text: &[u8]) -> io::Result<()>
     ensures none { Put text.now result }
     ensures all { OnOk result (Appends (W.contents to.old) (W.contents to.new) text.now) }
 {
+    // std's `write_all` has other words for a write of no bytes, and promises nothing of an empty text.
     let mut done = 0;
-    let mut left: u64 = 18446744073709551615;
-    while done < text.len() {
-        if left == 0 {
-            return Err(io::Error::from(ErrorKind::TimedOut));
+    for _ in 0..u64::MAX {
+        if done == text.len() {
+            break;
         }
-        left -= 1;
         match to.write(&text[done..]) {
-            Ok(got) => {
-                if got == 0 {
-                    return Err(io::Error::from(ErrorKind::WriteZero));
-                }
-                done += got;
-            }
-            Err(e) => {
-                if e.kind() != ErrorKind::Interrupted {
-                    return Err(e);
-                }
-            }
+            Ok(0) => return Err(io::Error::from(ErrorKind::WriteZero)),
+            Ok(got) => done += got,
+            Err(e) if e.kind() == ErrorKind::Interrupted => {}
+            Err(e) => return Err(e),
         }
+    }
+    if done < text.len() {
+        return Err(io::Error::from(ErrorKind::TimedOut));
     }
     Ok(())
 }

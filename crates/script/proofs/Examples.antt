@@ -8,7 +8,6 @@ use Rattle.script_decimal.specs.declared.Sort.TheVariants.{Query, Word}
 use Rattle.script_decimal.specs.Bytes.{bytes, byte_ok}
 use Rattle.script_decimal.specs.Numerals.{value_from}
 use Rattle.script_decimal.specs.Items.{written_kind, written_digits}
-use Rattle.script_parts.specs.Parts.{run_length}
 use Rattle.script_parts.proofs.Runs.{run_all}
 use Rattle.script.specs.declared.Import.TheVariants.{Include}
 use Rattle.script.specs.declared.Question.TheVariants.{Complete}
@@ -17,7 +16,7 @@ use Rattle.script.specs.Script.{key, name, import, module_path, ask, Reads}
 -- A number alone is a Register's.
 name_line : Reads (bytes "[name [Live.] offset 3]")
     (name (bytes "Live.") (bytes "offset") (record { kind = Register; number = 3 }))
-unfolding bytes byte_ok value_from key run_length written_kind written_digits kind_letter
+unfolding bytes byte_ok value_from key written_kind written_digits kind_letter
 name_line = record {
   short = omega arith;
   spelled = record {
@@ -31,7 +30,7 @@ name_line = record {
 }
 
 timer_line : Reads (bytes "[name [] tick t5]") (name (bytes "") (bytes "tick") (record { kind = Timer; number = 5 }))
-unfolding bytes byte_ok value_from key run_length written_kind written_digits kind_letter
+unfolding bytes byte_ok value_from key written_kind written_digits kind_letter
 timer_line = record {
   short = omega arith;
   spelled = record {
@@ -45,7 +44,7 @@ timer_line = record {
 }
 
 include_line : Reads (bytes "[include [Live.] [Saved.]]") (import Include (bytes "Live.") (bytes "Saved."))
-unfolding bytes byte_ok key run_length
+unfolding bytes byte_ok key
 include_line = record {
   short = omega arith;
   spelled = record { host_ok = run_all Query (bytes "Live."); query_ok = run_all Query (bytes "Saved."); spelled = refl };
@@ -53,7 +52,7 @@ include_line = record {
 
 -- A path may hold brackets and spaces, and begin with a space.
 module_line : Reads (bytes "[module l [A.]  x] [y]") (module_path true (bytes "A.") (bytes " x] [y"))
-unfolding bytes byte_ok key run_length
+unfolding bytes byte_ok key
 module_line = record { short = omega arith; spelled = record { query_ok = run_all Query (bytes "A."); spelled = refl } }
 
 complete_line : Reads (bytes "[complete []]") (ask Complete (bytes ""))

@@ -2,7 +2,6 @@
 use mathlib.Core.Path.{◌≡◌, refl, sym, ap, ◌∙◌, subst}
 use mathlib.Core.Bool.{Bool, true, false}
 use mathlib.Core.List.{[], ◌∷◌}
-use Prim.Native.Nat.{ℕ, ◌+◌, ◌-◌}
 use native.Mathlib.Omega.{arith}
 use lib.ListN.{length, drop}
 use lib.Seq.{drop_at}
@@ -14,17 +13,14 @@ use Rattle.script.specs.declared.Question.{Question}
 use Rattle.script.specs.declared.Question.TheVariants.{Find, Complete, Modules}
 use Rattle.script.specs.declared.Key.{Key}
 use Rattle.script.specs.declared.Key.TheVariants.{Name as NameKey, Alias as AliasKey, Import as ImportKey, Module as ModuleKey, Ask as AskKey}
-use Rattle.script_parts.specs.declared.Extent.{Extent}
 use Rattle.register_kind.specs.declared.CallKind.TheVariants as kind
-use Rattle.script.specs.declared.LineForm.TheVariants.{Register, Ask as AskForm}
-use Rattle.script_parts.specs.declared.Pair.TheVariants.{At as AtPair}
-use Rattle.script_parts.specs.declared.Tail.TheVariants.{At as AtTail}
 use Rattle.script_decimal.specs.Bytes.{Str, ◌·◌, bytes}
 use Rattle.script.specs.Script.{key, Command, name, import, alias, module_path, ask, NameLine, ImportLine, AliasLine, ModuleLine, AskLine, Spelled, Reads}
-use Rattle.script.specs.Script.{import_kind, Parsed}
-use Rattle.script_parts.specs.Parts.{part_of, cut, WordAt, Piece, PieceAt, IdEnd, IdSays, PairEnd, PairSays, LastAt, QueryEnd, QueryAt}
+use Rattle.script.specs.Script.{import_kind, RegistrationLine}
+use Rattle.script_parts.specs.Parts.{Piece, IdEnd, PairEnd, QueryEnd}
+use Rattle.script_parts.proofs.Runs.{piece_once}
 use Rattle.script.specs.Keys.{key_of, Only}
-use Rattle.script_parts.proofs.Parts.{part_found, rest_found, cut_length, stops_query, stops_word}
+use Rattle.script_parts.proofs.Parts.{stops_query, stops_word}
 
 -- The command's form.
 abbrev command_key : Command → Key
@@ -71,9 +67,9 @@ pub reads_refused : {line : Str} {k : Key} → Only line k → ((c : Command) �
     → Reads line c → ⊥
 reads_refused {line} o f c r = f c (subst (Keyed line c) o.only (reads_keyed line c r))
 
--- What follows the form's first word.
-pub after_word : {line word rest : Str} {at : ℕ} → WordAt line word at → line ≡ word · rest → drop at line ≡ rest
-after_word {line} {word} {rest} {at} w e = ap (drop at) e ∙ drop_at word rest at (sym w.long)
+-- What follows one word in one line.
+pub after : {line : Str} (word : Str) {s t : Str} → line ≡ word · s → line ≡ word · t → s ≡ t
+after word {s} {t} a b = sym (drop_at word s (length word) refl) ∙ ap (drop (length word)) (sym a ∙ b) ∙ drop_at word t (length word) refl
 
 -- A line that does not begin with its form's first word is no command.
 pub word_none : {line : Str} {k : Key} → Only line k → ((rest : Str) → line ≡ key k · rest → ⊥) → (c : Command)
@@ -123,151 +119,124 @@ ask_query r e = record { query_ok = r.query_ok; spelled = e }
 
 -- ---- Each form, found or reads-refused
 
--- A text that the kind has not.
-abbrev none : Extent
-none = record { start = 0; len = 0 }
+module _ {line begun : Str} (o : Only line NameKey) (w : line ≡ key NameKey · begun) where
+  pub name_none : ((part rest : Str) → Piece Query (93 ∷ 32 ∷ []) begun part rest → ⊥) → (c : Command) → Reads line c
+      → ⊥
+  name_none n = reads_refused o (λ c k. n _ _ (name_piece k.4 (after (key NameKey) w k.4.spelled)))
 
-module _ {line : Str} {at : ℕ} (o : Only line NameKey) (w : WordAt line (key NameKey) at) where
-  pub name_none : ((part rest : Str) → Piece Query (93 ∷ 32 ∷ []) (drop at line) part rest → ⊥) → (c : Command)
-      → Reads line c → ⊥
-  name_none n = reads_refused o (λ c k. n _ _ (name_piece k.4 (after_word w k.4.spelled)))
-
-  module _ {e : ℕ} (p : PieceAt Query (93 ∷ 32 ∷ []) line at e) where
-    pub name_no : ((id : Str) (c : LidSymbol) → IdEnd (drop (e + 2) line) id c → ⊥) → (c : Command) → Reads line c → ⊥
+  module _ {host rest : Str} (p : Piece Query (93 ∷ 32 ∷ []) begun host rest) where
+    pub name_no : ((id : Str) (c : LidSymbol) → IdEnd rest id c → ⊥) → (c : Command) → Reads line c → ⊥
     name_no n = reads_refused o (λ c k. n k.1 k.2
-        (name_id k.4 (sym (rest_found p stops_query (name_piece k.4 (after_word w k.4.spelled))))))
+        (name_id k.4 (piece_once Query stops_query p (name_piece k.4 (after (key NameKey) w k.4.spelled))).1))
 
-    pub name_yes : (id : Extent) (c : LidSymbol) → IdSays line (e + 2) (AtTail id c)
-        → Parsed line (Register (kind.Name c.kind c.number) (record { start = at; len = e - at }) id none)
+    pub name_yes : {id y : Str} {c : LidSymbol} → IdEnd rest id c
+        → RegistrationLine line (kind.Name c.kind c.number) host id y
     unfolding bytes
-    name_yes id c r = record {
-      host_in = omega (arith, p.start, p.end);
-      other_in = r.0;
-      key_in = omega arith;
-      command = name (cut at e line) (part_of line id) c;
+    name_yes {id} {c = c} r = record {
+      command = name host id c;
       reads = record {
         short = o.short;
         spelled = record {
-          host_ok = p.piece.ok;
-          id_ok = r.1.id_ok;
-          id_some = r.1.id_some;
-          word = r.1.word;
-          item = r.1.item;
-          spelled = w.spelled ∙ ap (λ (t : Str). key NameKey · t)
-              (p.piece.spelled ∙ ap (λ (t : Str). cut at e line · 93 ∷ 32 ∷ t) r.1.spelled);
+          host_ok = p.ok;
+          id_ok = r.id_ok;
+          id_some = r.id_some;
+          word = r.word;
+          item = r.item;
+          spelled = w ∙ ap (λ (t : Str). key NameKey · t) (p.spelled ∙ ap (λ (t : Str). host · 93 ∷ 32 ∷ t) r.spelled);
         };
       };
       of_kind = (refl, refl, refl);
     }
 
-module _ {how : Import} {line : Str} {at : ℕ} (o : Only line (ImportKey how))
-    (w : WordAt line (key (ImportKey how)) at) where
-  pub import_no : ((host q : Str) → PairEnd (drop at line) host q → ⊥) → (c : Command) → Reads line c → ⊥
-  import_no n = reads_refused o (λ c k. n k.0 k.1 (import_pair k.3 (after_word w k.3.spelled)))
+module _ {how : Import} {line begun : Str} (o : Only line (ImportKey how))
+    (w : line ≡ key (ImportKey how) · begun) where
+  pub import_no : ((host q : Str) → PairEnd begun host q → ⊥) → (c : Command) → Reads line c → ⊥
+  import_no n = reads_refused o (λ c k. n k.0 k.1 (import_pair k.3 (after (key (ImportKey how)) w k.3.spelled)))
 
-  pub import_yes : (host q : Extent) → PairSays line at (AtPair host q)
-      → Parsed line (Register (import_kind how) host q none)
-  import_yes host q r = record {
-    host_in = r.0;
-    other_in = r.1;
-    key_in = omega arith;
-    command = import how (part_of line host) (part_of line q);
+  pub import_yes : {host q y : Str} → PairEnd begun host q → RegistrationLine line (import_kind how) host q y
+  import_yes {host} {q} r = record {
+    command = import how host q;
     reads = record {
       short = o.short;
       spelled = record {
-        host_ok = r.2.host_ok;
-        query_ok = r.2.query_ok;
-        spelled = w.spelled ∙ ap (λ (t : Str). key (ImportKey how) · t) r.2.spelled;
+        host_ok = r.host_ok;
+        query_ok = r.query_ok;
+        spelled = w ∙ ap (λ (t : Str). key (ImportKey how) · t) r.spelled;
       };
     };
     of_kind = (refl, refl, refl);
   }
 
-module _ {line : Str} {at : ℕ} (o : Only line AliasKey) (w : WordAt line (key AliasKey) at) where
-  pub alias_none : ((part rest : Str) → Piece Word (32 ∷ 91 ∷ []) (drop at line) part rest → ⊥) → (c : Command)
-      → Reads line c → ⊥
-  alias_none n = reads_refused o (λ c k. n _ _ (alias_piece k.4 (after_word w k.4.spelled)))
+module _ {line begun : Str} (o : Only line AliasKey) (w : line ≡ key AliasKey · begun) where
+  pub alias_none : ((part rest : Str) → Piece Word (32 ∷ 91 ∷ []) begun part rest → ⊥) → (c : Command) → Reads line c
+      → ⊥
+  alias_none n = reads_refused o (λ c k. n _ _ (alias_piece k.4 (after (key AliasKey) w k.4.spelled)))
 
-  module _ {e : ℕ} (p : PieceAt Word (32 ∷ 91 ∷ []) line at e) where
-    pub alias_empty : e ≡ at → (c : Command) → Reads line c → ⊥
+  module _ {part rest : Str} (p : Piece Word (32 ∷ 91 ∷ []) begun part rest) where
+    pub alias_empty : length part ≡ 0 → (c : Command) → Reads line c → ⊥
     alias_empty h = reads_refused o (λ c k. omega (
       arith,
       k.4.word_some,
-      h,
-      cut_length p,
-      ap length (part_found p stops_word (alias_piece k.4 (after_word w k.4.spelled))),
+      ap length (piece_once Word stops_word p (alias_piece k.4 (after (key AliasKey) w k.4.spelled))).0,
     ))
 
-    pub alias_no : ((host q : Str) → PairEnd (drop (e + 2) line) host q → ⊥) → (c : Command) → Reads line c → ⊥
+    pub alias_no : ((host q : Str) → PairEnd rest host q → ⊥) → (c : Command) → Reads line c → ⊥
     alias_no n = reads_refused o (λ c k. n k.1 k.2
-        (alias_pair k.4 (sym (rest_found p stops_word (alias_piece k.4 (after_word w k.4.spelled))))))
+        (alias_pair k.4 (piece_once Word stops_word p (alias_piece k.4 (after (key AliasKey) w k.4.spelled))).1))
 
-    pub alias_yes : (e ≡ at → ⊥) → (host q : Extent) → PairSays line (e + 2) (AtPair host q)
-        → Parsed line (Register kind.Alias host q (record { start = at; len = e - at }))
+    pub alias_yes : {host q : Str} → (length part ≡ 0 → ⊥) → PairEnd rest host q
+        → RegistrationLine line kind.Alias host q part
     unfolding bytes
-    alias_yes some host q r = record {
-      host_in = r.0;
-      other_in = r.1;
-      key_in = omega (arith, p.start, p.end);
-      command = alias (cut at e line) (part_of line host) (part_of line q);
+    alias_yes {host} {q} some r = record {
+      command = alias part host q;
       reads = record {
         short = o.short;
         spelled = record {
-          word_ok = p.piece.ok;
-          word_some = rw (cut_length p) (omega (arith, some, p.start));
-          host_ok = r.2.host_ok;
-          query_ok = r.2.query_ok;
-          spelled = w.spelled ∙ ap (λ (t : Str). key AliasKey · t)
-              (p.piece.spelled ∙ ap (λ (t : Str). cut at e line · 32 ∷ 91 ∷ t) r.2.spelled);
+          word_ok = p.ok;
+          word_some = omega arith;
+          host_ok = r.host_ok;
+          query_ok = r.query_ok;
+          spelled = w ∙ ap (λ (t : Str). key AliasKey · t) (p.spelled ∙ ap (λ (t : Str). part · 32 ∷ 91 ∷ t) r.spelled);
         };
       };
       of_kind = (refl, refl, refl, refl);
     }
 
-module _ {loaded : Bool} {line : Str} {at : ℕ} (o : Only line (ModuleKey loaded))
-    (w : WordAt line (key (ModuleKey loaded)) at) where
-  pub module_none : ((part rest : Str) → Piece Query (93 ∷ 32 ∷ []) (drop at line) part rest → ⊥) → (c : Command)
-      → Reads line c → ⊥
-  module_none n = reads_refused o (λ c k. n _ _ (module_piece k.3 (after_word w k.3.spelled)))
+module _ {loaded : Bool} {line begun : Str} (o : Only line (ModuleKey loaded))
+    (w : line ≡ key (ModuleKey loaded) · begun) where
+  pub module_none : ((part rest : Str) → Piece Query (93 ∷ 32 ∷ []) begun part rest → ⊥) → (c : Command) → Reads line c
+      → ⊥
+  module_none n = reads_refused o (λ c k. n _ _ (module_piece k.3 (after (key (ModuleKey loaded)) w k.3.spelled)))
 
-  module _ {e : ℕ} (p : PieceAt Query (93 ∷ 32 ∷ []) line at e) where
-    pub module_no : ((path : Str) → drop (e + 2) line ≡ path · bytes "]" → ⊥) → (c : Command) → Reads line c → ⊥
+  module _ {q rest : Str} (p : Piece Query (93 ∷ 32 ∷ []) begun q rest) where
+    pub module_no : ((path : Str) → rest ≡ path · bytes "]" → ⊥) → (c : Command) → Reads line c → ⊥
     module_no n = reads_refused o
-        (λ c k. n k.1 (sym (rest_found p stops_query (module_piece k.3 (after_word w k.3.spelled)))))
+        (λ c k. n k.1
+        (piece_once Query stops_query p (module_piece k.3 (after (key (ModuleKey loaded)) w k.3.spelled))).1)
 
-    pub module_yes : {f : ℕ} → LastAt line (e + 2) f
-        → Parsed line (Register (kind.Module loaded) (record { start = at; len = e - at })
-        (record { start = e + 2; len = f - (e + 2) }) none)
+    pub module_yes : {path y : Str} → rest ≡ path · bytes "]" → RegistrationLine line (kind.Module loaded) q path y
     unfolding bytes
-    module_yes {f} l = record {
-      host_in = omega (arith, p.start, p.end);
-      other_in = omega (arith, l.start, l.end);
-      key_in = omega arith;
-      command = module_path loaded (cut at e line) (cut (e + 2) f line);
+    module_yes {path} l = record {
+      command = module_path loaded q path;
       reads = record {
         short = o.short;
         spelled = record {
-          query_ok = p.piece.ok;
-          spelled = w.spelled ∙ ap (λ (t : Str). key (ModuleKey loaded) · t)
-              (p.piece.spelled ∙ ap (λ (t : Str). cut at e line · 93 ∷ 32 ∷ t) l.spelled);
+          query_ok = p.ok;
+          spelled = w ∙ ap (λ (t : Str). key (ModuleKey loaded) · t) (p.spelled ∙ ap (λ (t : Str). q · 93 ∷ 32 ∷ t) l);
         };
       };
       of_kind = (refl, refl, refl);
     }
 
-module _ {what : Question} {line : Str} {at : ℕ} (o : Only line (AskKey what))
-    (w : WordAt line (key (AskKey what)) at) where
-  pub ask_no : ((q : Str) → QueryEnd (drop at line) q → ⊥) → (c : Command) → Reads line c → ⊥
-  ask_no n = reads_refused o (λ c k. n k.0 (ask_query k.2 (after_word w k.2.spelled)))
+module _ {what : Question} {line begun : Str} (o : Only line (AskKey what)) (w : line ≡ key (AskKey what) · begun) where
+  pub ask_no : ((q : Str) → QueryEnd begun q → ⊥) → (c : Command) → Reads line c → ⊥
+  ask_no n = reads_refused o (λ c k. n k.0 (ask_query k.2 (after (key (AskKey what)) w k.2.spelled)))
 
-  pub ask_yes : {e : ℕ} → QueryAt line at e → Parsed line (AskForm what (record { start = at; len = e - at }))
-  ask_yes q = (
-    omega (arith, q.start, q.end),
-    record {
-      short = o.short;
-      spelled = record {
-        query_ok = q.query.query_ok;
-        spelled = w.spelled ∙ ap (λ (t : Str). key (AskKey what) · t) q.query.spelled;
-      };
-    },
-  )
+  pub ask_yes : {q : Str} → QueryEnd begun q → Reads line (ask what q)
+  ask_yes q = record {
+    short = o.short;
+    spelled = record {
+      query_ok = q.query_ok;
+      spelled = w ∙ ap (λ (t : Str). key (AskKey what) · t) q.spelled;
+    };
+  }

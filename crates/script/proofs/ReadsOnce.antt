@@ -1,12 +1,10 @@
 -- A line is spelled by one command at most.
 use mathlib.Core.Path.{◌≡◌, refl, sym, ap, ◌∙◌, ap₂}
-use lib.ListN.{length, drop}
-use lib.Seq.{drop_at}
 use Rattle.source.specs.declared.LidSymbol.{LidSymbol}
 use Rattle.script_decimal.specs.declared.Sort.TheVariants.{Query, Word}
 use Rattle.script.specs.declared.Key.{Key}
 use Rattle.script.specs.declared.Key.TheVariants.{Name as NameKey, Alias as AliasKey, Import as ImportKey, Module as ModuleKey, Ask as AskKey}
-use Rattle.script_decimal.specs.Bytes.{Str, ◌·◌}
+use Rattle.script_decimal.specs.Bytes.{Str}
 use Rattle.script.specs.Script.{key, Command, Reads}
 use Rattle.script_decimal.specs.Numerals.{value_from}
 use Rattle.script.specs.Keys.{key_of}
@@ -14,11 +12,7 @@ use Rattle.script_decimal.specs.Items.{written_kind, written_digits, ItemText}
 use Rattle.script_parts.specs.Parts.{IdEnd, PairEnd, QueryEnd}
 use Rattle.script_parts.proofs.Runs.{piece_once}
 use Rattle.script_parts.proofs.Parts.{last_once, stops_query, stops_word, query_piece, pair_piece, id_piece}
-use Rattle.script.proofs.Forms.{Keyed, reads_keyed, name_piece, name_id, import_pair, alias_piece, alias_pair, module_piece, ask_query}
-
--- What follows one word in one line.
-after : {line : Str} (word : Str) {s t : Str} → line ≡ word · s → line ≡ word · t → s ≡ t
-after word {s} {t} a b = sym (drop_at word s (length word) refl) ∙ ap (drop (length word)) (sym a ∙ b) ∙ drop_at word t (length word) refl
+use Rattle.script.proofs.Forms.{Keyed, after, reads_keyed, name_piece, name_id, import_pair, alias_piece, alias_pair, module_piece, ask_query}
 
 item_once : {w w' : Str} {c c' : LidSymbol} → ItemText w c → ItemText w' c' → w ≡ w' → c ≡ c'
 item_once a b e =

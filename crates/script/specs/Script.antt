@@ -1,11 +1,9 @@
 -- The script's lines as the requirements spell them, and what `parse` answers.
-use Rattle.std.specs.Prelude.{◌≡◌, Bool, true, false, ◌<◌, ◌≤◌, length}
+use Rattle.std.specs.Prelude.{◌≡◌, Bool, true, false, Option, Some, None, ◌<◌, ◌≤◌, length}
 use Rattle.source.specs.declared.LidSymbol.{LidSymbol}
 use Rattle.script_decimal.specs.declared.Sort.TheVariants.{Query, Word}
 use Rattle.script_decimal.specs.Bytes.{Str, bytes, ◌·◌, All}
 use Rattle.script_decimal.specs.Items.{ItemText}
-use Rattle.script_parts.specs.Parts.{Within, part_of}
-use Rattle.script_parts.specs.declared.Extent.{Extent}
 use Rattle.register_kind.specs.declared.CallKind.{CallKind}
 use Rattle.register_kind.specs.declared.CallKind.TheVariants as kind
 use Rattle.script.specs.declared.Import.{Import}
@@ -15,7 +13,7 @@ use Rattle.script.specs.declared.Question.TheVariants.{Find, Complete, Modules}
 use Rattle.script.specs.declared.Key.{Key}
 use Rattle.script.specs.declared.Key.TheVariants.{Name as NameKey, Alias as AliasKey, Import as ImportKey, Module as ModuleKey, Ask as AskKey}
 use Rattle.script.specs.declared.LineForm.{LineForm}
-use Rattle.script.specs.declared.LineForm.TheVariants.{Register, Ask as AskForm, Bad}
+use Rattle.script.specs.declared.LineForm.TheVariants.{Register, Ask as AskForm}
 
 -- ---- The forms
 
@@ -102,17 +100,14 @@ OfKind (alias word host q) k h o y = (k ≡ kind.Alias) × (h ≡ host) × (o �
 OfKind (module_path loaded q path) k h o y = (k ≡ kind.Module loaded) × (h ≡ q) × (o ≡ path)
 OfKind (ask what q) k h o y = ⊥
 
--- The line says a registration of this kind, its texts spans of the line.
-pub record RegistrationLine (line : Str) (k : CallKind) (host other key : Extent) : Type 0 where
-  pub host_in : Within line host
-  pub other_in : Within line other
-  pub key_in : Within line key
+-- The line says a registration of this kind, of these texts.
+pub record RegistrationLine (line : Str) (k : CallKind) (host other key : Str) : Type 0 where
   pub command : Command
   pub reads : Reads line command
-  pub of_kind : OfKind command k (part_of line host) (part_of line other) (part_of line key)
+  pub of_kind : OfKind command k host other key
 
--- The form that the line is, its parts as spans of the line; or `Bad`, and the line is no form.
-abbrev pub Parsed : Str → LineForm → Type 0
-Parsed line (Register k host other key) = RegistrationLine line k host other key
-Parsed line (AskForm what q) = Within line q × Reads line (ask what (part_of line q))
-Parsed line Bad = (command : Command) → Reads line command → ⊥
+-- The form that the line is, and its texts; or `None`, and the line is no form.
+abbrev pub Parsed : Str → Option LineForm → Type 0
+Parsed line (Some (Register k host other key)) = RegistrationLine line k host.now other.now key.now
+Parsed line (Some (AskForm what q)) = Reads line (ask what q.now)
+Parsed line None = (command : Command) → Reads line command → ⊥

@@ -1,16 +1,16 @@
 // The forms of a line of the program `console`. `parse` answers the form that spells a line, or that none does. Nothing is assumed.
 #![tactic(auto)]
 
-ghost use Rattle.std.specs.Prelude.{◌≡◌};
-ghost use Rattle.script_parts.specs.Parts.{WordSays};
+ghost use Rattle.std.specs.Prelude.{◌≡◌, get_or};
 ghost use Rattle.script.specs.Script.{key, import_kind, Parsed};
 ghost use Rattle.script.specs.Keys.{key_by, key_of, Only};
 
 use register_kind::CallKind;
 use script_decimal::Sort;
-use script_parts::{
-    Extent, Pair, Part, Tail, byte_at, id_end, last_end, pair_end, piece, query_end, word_end,
-};
+use script_parts::{Pair, Tail, id_end, last_end, pair_end, piece, query_end, word_end};
+
+// The longest line that is read, without its line feed.
+const LINE_BYTES: usize = 2048;
 
 // The forms of a host and a query: `include`, `open m`, `open n`.
 #[derive(Clone, Copy)]
@@ -29,20 +29,19 @@ pub enum Question {
 }
 
 // What a line is: a registration, its kind and its texts (host or module query; id, included query or file path; key, empty where the
-// kind has none); a question; or neither.
+// kind has none); or a question.
 #[derive(Clone, Copy)]
-pub enum LineForm {
+pub enum LineForm<'a> {
     Register {
         kind: CallKind,
-        host: Extent,
-        other: Extent,
-        key: Extent,
+        host: &'a [u8],
+        other: &'a [u8],
+        key: &'a [u8],
     },
     Ask {
         what: Question,
-        query: Extent,
+        query: &'a [u8],
     },
-    Bad,
 }
 
 // A form, by what its line begins with.
@@ -55,38 +54,29 @@ enum Key {
     Ask(Question),
 }
 
+// The byte at `i`, or 0 past the line's end.
+fn byte_at(line: &[u8], i: usize) -> u8
+    ensures { result ≡ get_or line.now i 0 }
+{
+    line.get(i).copied().unwrap_or(0)
+}
+
 // The only form that a line can be, by its bytes 1, 6 and 8.
 fn key_by(b: u8, c: u8, d: u8) -> Key
     ensures { result ≡ key_by b c d }
 {
-    if b == b'n' {
-        return Key::Name;
+    match (b, c, d) {
+        (b'n', _, _) => Key::Name,
+        (b'a', _, _) => Key::Alias,
+        (b'i', _, _) => Key::Import(Import::Include),
+        (b'o', b'm', _) => Key::Import(Import::OpenModule),
+        (b'o', _, _) => Key::Import(Import::OpenNamespace),
+        (b'f', _, _) => Key::Ask(Question::Find),
+        (b'c', _, _) => Key::Ask(Question::Complete),
+        (_, _, b'l') => Key::Module(true),
+        (_, _, b'u') => Key::Module(false),
+        _ => Key::Ask(Question::Modules),
     }
-    if b == b'a' {
-        return Key::Alias;
-    }
-    if b == b'i' {
-        return Key::Import(Import::Include);
-    }
-    if b == b'o' {
-        if c == b'm' {
-            return Key::Import(Import::OpenModule);
-        }
-        return Key::Import(Import::OpenNamespace);
-    }
-    if b == b'f' {
-        return Key::Ask(Question::Find);
-    }
-    if b == b'c' {
-        return Key::Ask(Question::Complete);
-    }
-    if d == b'l' {
-        return Key::Module(true);
-    }
-    if d == b'u' {
-        return Key::Module(false);
-    }
-    Key::Ask(Question::Modules)
 }
 
 // The only form that the line can be.
@@ -96,35 +86,22 @@ fn key_of(line: &[u8]) -> Key
     key_by(byte_at(line, 1), byte_at(line, 6), byte_at(line, 8))
 }
 
-// The end of the first word of `how`.
-fn import_word(line: &[u8], how: Import) -> Part
-    ensures { WordSays line.now (key (Key.Import how)) result }
+// What a line of the form begins with.
+#[tactic(auto, unfolding(crate::specs::Script::key, script_decimal::specs::Bytes::bytes))]
+fn word_of(form: Key) -> &'static [u8]
+    ensures { result.now ≡ key form }
 {
-    match how {
-        Import::Include => word_end(line, b"[include ["),
-        Import::OpenModule => word_end(line, b"[open m ["),
-        Import::OpenNamespace => word_end(line, b"[open n ["),
-    }
-}
-
-// The end of the first word of a module's line.
-fn module_word(line: &[u8], loaded: bool) -> Part
-    ensures { WordSays line.now (key (Key.Module loaded)) result }
-{
-    if loaded {
-        return word_end(line, b"[module l [");
-    }
-    word_end(line, b"[module u [")
-}
-
-// The end of the first word of `what`.
-fn ask_word(line: &[u8], what: Question) -> Part
-    ensures { WordSays line.now (key (Key.Ask what)) result }
-{
-    match what {
-        Question::Find => word_end(line, b"[find ["),
-        Question::Complete => word_end(line, b"[complete ["),
-        Question::Modules => word_end(line, b"[modules ["),
+    match form {
+        Key::Name => b"[name [",
+        Key::Alias => b"[alias ",
+        Key::Import(Import::Include) => b"[include [",
+        Key::Import(Import::OpenModule) => b"[open m [",
+        Key::Import(Import::OpenNamespace) => b"[open n [",
+        Key::Module(true) => b"[module l [",
+        Key::Module(false) => b"[module u [",
+        Key::Ask(Question::Find) => b"[find [",
+        Key::Ask(Question::Complete) => b"[complete [",
+        Key::Ask(Question::Modules) => b"[modules [",
     }
 }
 
@@ -140,136 +117,90 @@ fn import_kind(how: Import) -> CallKind
 }
 
 // `[name [host] id N]`, N an item
-fn name_form(line: &[u8]) -> LineForm
+#[tactic(auto, unfolding(script_decimal::specs::Bytes::byte_ok))]
+fn name_form(line: &[u8]) -> Option<LineForm<'_>>
     requires { Only line.now Key.Name }
     ensures { Parsed line.now result }
 {
-    match word_end(line, b"[name [") {
-        Part::At(at) => match piece(line, at, Sort::Query, b"] ") {
-            Part::At(e) => match id_end(line, e + 2) {
-                Tail::At { id, item } => {
-                    let kind = item.kind;
-                    LineForm::Register {
-                        kind: CallKind::Name(kind, item.number),
-                        host: Extent {
-                            start: at,
-                            len: e - at,
-                        },
-                        other: id,
-                        key: Extent { start: 0, len: 0 },
-                    }
-                }
-                Tail::No => LineForm::Bad,
-            },
-            Part::No => LineForm::Bad,
-        },
-        Part::No => LineForm::Bad,
-    }
+    let begun = word_end(line, word_of(Key::Name))?;
+    let (host, rest) = piece(begun, Sort::Query, b"] ")?;
+    let Tail { id, item } = id_end(rest)?;
+    Some(LineForm::Register {
+        kind: CallKind::Name(item.kind, item.number),
+        host,
+        other: id,
+        key: b"",
+    })
 }
 
 // `[include [host] [q]]`, `[open m [host] [q]]`, `[open n [host] [q]]`
-fn import_form(line: &[u8], how: Import) -> LineForm
+fn import_form(line: &[u8], how: Import) -> Option<LineForm<'_>>
     requires { Only line.now (Key.Import how) }
     ensures { Parsed line.now result }
 {
-    match import_word(line, how) {
-        Part::At(at) => match pair_end(line, at) {
-            Pair::At { host, query } => LineForm::Register {
-                kind: import_kind(how),
-                host: host,
-                other: query,
-                key: Extent { start: 0, len: 0 },
-            },
-            Pair::No => LineForm::Bad,
-        },
-        Part::No => LineForm::Bad,
-    }
+    let begun = word_end(line, word_of(Key::Import(how)))?;
+    let Pair { host, query } = pair_end(begun)?;
+    Some(LineForm::Register {
+        kind: import_kind(how),
+        host,
+        other: query,
+        key: b"",
+    })
 }
 
 // `[alias key [host] [q]]`
-fn alias_form(line: &[u8]) -> LineForm
+#[tactic(auto, unfolding(script_decimal::specs::Bytes::byte_ok))]
+fn alias_form(line: &[u8]) -> Option<LineForm<'_>>
     requires { Only line.now Key.Alias }
     ensures { Parsed line.now result }
 {
-    match word_end(line, b"[alias ") {
-        Part::At(at) => match piece(line, at, Sort::Word, b" [") {
-            Part::At(e) => {
-                if e == at {
-                    return LineForm::Bad;
-                }
-                match pair_end(line, e + 2) {
-                    Pair::At { host, query } => LineForm::Register {
-                        kind: CallKind::Alias,
-                        host: host,
-                        other: query,
-                        key: Extent {
-                            start: at,
-                            len: e - at,
-                        },
-                    },
-                    Pair::No => LineForm::Bad,
-                }
-            }
-            Part::No => LineForm::Bad,
-        },
-        Part::No => LineForm::Bad,
+    let begun = word_end(line, word_of(Key::Alias))?;
+    let (key, rest) = piece(begun, Sort::Word, b" [")?;
+    if key.is_empty() {
+        return None;
     }
+    let Pair { host, query } = pair_end(rest)?;
+    Some(LineForm::Register {
+        kind: CallKind::Alias,
+        host,
+        other: query,
+        key,
+    })
 }
 
 // `[module l [q] path]`, `[module u [q] path]`
-fn module_form(line: &[u8], loaded: bool) -> LineForm
+#[tactic(auto, unfolding(script_decimal::specs::Bytes::byte_ok))]
+fn module_form(line: &[u8], loaded: bool) -> Option<LineForm<'_>>
     requires { Only line.now (Key.Module loaded) }
     ensures { Parsed line.now result }
 {
-    match module_word(line, loaded) {
-        Part::At(at) => match piece(line, at, Sort::Query, b"] ") {
-            Part::At(e) => match last_end(line, e + 2) {
-                Part::At(f) => LineForm::Register {
-                    kind: CallKind::Module(loaded),
-                    host: Extent {
-                        start: at,
-                        len: e - at,
-                    },
-                    other: Extent {
-                        start: e + 2,
-                        len: f - (e + 2),
-                    },
-                    key: Extent { start: 0, len: 0 },
-                },
-                Part::No => LineForm::Bad,
-            },
-            Part::No => LineForm::Bad,
-        },
-        Part::No => LineForm::Bad,
-    }
+    let begun = word_end(line, word_of(Key::Module(loaded)))?;
+    let (query, rest) = piece(begun, Sort::Query, b"] ")?;
+    let path = last_end(rest)?;
+    Some(LineForm::Register {
+        kind: CallKind::Module(loaded),
+        host: query,
+        other: path,
+        key: b"",
+    })
 }
 
 // `[find [q]]`, `[complete [q]]`, `[modules [q]]`
-fn ask_form(line: &[u8], what: Question) -> LineForm
+fn ask_form(line: &[u8], what: Question) -> Option<LineForm<'_>>
     requires { Only line.now (Key.Ask what) }
     ensures { Parsed line.now result }
 {
-    match ask_word(line, what) {
-        Part::At(at) => match query_end(line, at) {
-            Part::At(e) => LineForm::Ask {
-                what: what,
-                query: Extent {
-                    start: at,
-                    len: e - at,
-                },
-            },
-            Part::No => LineForm::Bad,
-        },
-        Part::No => LineForm::Bad,
-    }
+    let begun = word_end(line, word_of(Key::Ask(what)))?;
+    let query = query_end(begun)?;
+    Some(LineForm::Ask { what, query })
 }
 
 // The form that a line is, without its line feed.
-pub fn parse(line: &[u8]) -> LineForm
+pub fn parse(line: &[u8]) -> Option<LineForm<'_>>
     ensures { Parsed line.now result }
 {
-    if 2048 < line.len() {
-        return LineForm::Bad;
+    if line.len() > LINE_BYTES {
+        return None;
     }
     match key_of(line) {
         Key::Name => name_form(line),

@@ -10,10 +10,8 @@ use lib.ListN.{length, get_or, take, drop}
 use lib.Seq.{drop-cons, drop-length, take-length}
 use borrow.Author.Tests.{leb-true}
 use Rattle.script_decimal.specs.declared.Sort.TheVariants.{Digit}
-use Rattle.script_decimal.specs.declared.Number.{Number}
-use Rattle.script_decimal.specs.declared.Number.TheVariants.{At, No}
 use Rattle.script_decimal.specs.Bytes.{Str, byte_ok, All}
-use Rattle.script_decimal.specs.Numerals.{value_from, Valued, ValueSays, NumberSays}
+use Rattle.script_decimal.specs.Numerals.{value_from, Valued}
 use Rattle.script_decimal.proofs.Bytes.{true_false, sort_at, all_more}
 
 and_both : (a b : Bool) → a && b ≡ true → (a ≡ true) × (b ≡ true)
@@ -73,10 +71,3 @@ module _ {ds : Str} {v i : ℕ} (k : Counted ds v i) where
       value = k.value ∙ value_step v ds i l ∙ ap (λ (x : ℕ). value_from x (drop (i + 1) ds)) (sym e);
       fits = f;
     }
-
--- ---- `numeral`
-
-pub number_says : (ds : Str) (r : Number) → 0 < length ds → (get_or ds 0 0 ≡ 48 → length ds ≡ 1) → ValueSays ds r
-    → NumberSays ds r
-number_says ds (At n) some lead v = record { digits = v.digits; some = some; lead = lead; value = v.value; fits = v.fits }
-number_says ds No some lead v = λ n k. v n (record { digits = k.digits; value = k.value; fits = k.fits })

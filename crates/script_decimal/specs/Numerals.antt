@@ -1,8 +1,6 @@
 -- Numbers in decimal: what digits are read as, and what is written of a number.
-use Rattle.std.specs.Prelude.{◌≡◌, true, false, [], ◌∷◌, ◌++◌, ℕ, zero, suc, ◌+◌, ◌-◌, ◌*◌, ◌/◌, ◌%◌, ◌<◌, ◌≤◌, ltb, length, get_or}
+use Rattle.std.specs.Prelude.{◌≡◌, true, false, Option, Some, None, [], ◌∷◌, ◌++◌, ℕ, zero, suc, ◌+◌, ◌-◌, ◌*◌, ◌/◌, ◌%◌, ◌<◌, ◌≤◌, ltb, length, get_or}
 use Rattle.script_decimal.specs.declared.Sort.TheVariants.{Digit}
-use Rattle.script_decimal.specs.declared.Number.{Number}
-use Rattle.script_decimal.specs.declared.Number.TheVariants.{At, No}
 use Rattle.script_decimal.specs.Bytes.{Str, All}
 
 -- ---- Read
@@ -27,14 +25,14 @@ pub record Valued (ds : Str) (n : ℕ) : Type 0 where
   pub fits : n ≤ 4294967295
 
 -- The number of the digits, or that there is none.
-abbrev pub ValueSays : Str → Number → Type 0
-ValueSays ds (At n) = Valued ds n
-ValueSays ds No = (n : ℕ) → Valued ds n → ⊥
+abbrev pub ValueSays : Str → Option ℕ → Type 0
+ValueSays ds (Some n) = Valued ds n
+ValueSays ds None = (n : ℕ) → Valued ds n → ⊥
 
 -- The number that is spelled, or that none is.
-abbrev pub NumberSays : Str → Number → Type 0
-NumberSays ds (At n) = Numeral ds n
-NumberSays ds No = (n : ℕ) → Numeral ds n → ⊥
+abbrev pub NumberSays : Str → Option ℕ → Type 0
+NumberSays ds (Some n) = Numeral ds n
+NumberSays ds None = (n : ℕ) → Numeral ds n → ⊥
 
 -- ---- Written
 

@@ -15,34 +15,15 @@ pub enum Sort {
     Line,
 }
 
-// The number that digits are, or that they are none.
-#[derive(Clone, Copy)]
-pub enum Number {
-    At(u32),
-    No,
-}
-
 // Whether a byte may stand in a part of this sort.
+#[tactic(auto, unfolding(crate::specs::Bytes::byte_ok))]
 pub fn byte_ok(sort: Sort, b: u8) -> bool
     ensures { result ≡ byte_ok sort b }
 {
     match sort {
         Sort::Query => b != b']',
-        Sort::Word => {
-            if b == b' ' {
-                return false;
-            }
-            if b == b'[' {
-                return false;
-            }
-            b != b']'
-        }
-        Sort::Digit => {
-            if b < b'0' {
-                return false;
-            }
-            b <= b'9'
-        }
+        Sort::Word => b != b' ' && b != b'[' && b != b']',
+        Sort::Digit => b'0' <= b && b <= b'9',
         Sort::Line => b != b'\n',
     }
 }

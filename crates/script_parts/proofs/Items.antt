@@ -8,12 +8,12 @@ use lib.Seq.{take_all}
 use borrow.Author.Tests.{ne_eqb}
 use Rattle.source.specs.Items.{kind_letter}
 use Rattle.source.specs.declared.ItemKind.{ItemKind}
+use Rattle.source.specs.declared.LidSymbol.{LidSymbol}
 use Rattle.source.specs.declared.ItemKind.TheVariants.{Timer, Port, Register}
 use Rattle.script_decimal.specs.Bytes.{Str}
 use Rattle.script_decimal.specs.Items.{written_kind, written_digits}
 use Rattle.script_parts.specs.Parts.{ItemSays, NumberedSays}
-use Rattle.script_parts.specs.declared.Item.{Item}
-use Rattle.script_parts.specs.declared.Item.TheVariants.{At, No}
+use Rattle.std.specs.Prelude.{Option, Some, None}
 
 -- A text that begins with a letter has a byte.
 pub letter_inside : (s : Str) {b : ℕ} → get_or s 0 0 ≡ b → 0 < b → 0 < length s
@@ -21,10 +21,11 @@ letter_inside [] e h = omega (arith, e)
 letter_inside (a ∷ s) e h = omega arith
 
 -- What is read of the digits as of the kind is the item, where these are what is written.
-pub item_says : (s : Str) (k : ItemKind) (ds : Str) → written_kind s ≡ k → written_digits s ≡ ds → (r : Item)
+pub item_says : (s : Str) (k : ItemKind) (ds : Str) → written_kind s ≡ k → written_digits s ≡ ds
+    → (r : Option LidSymbol)
     → NumberedSays k ds r → ItemSays s r
-item_says s k ds e f (At c) h = record { kind_is = h.0 ∙ sym e; number_is = rw f h.1 }
-item_says s k ds e f No h = λ c t. h c.number (rw f at t.number_is)
+item_says s k ds e f (Some c) h = record { kind_is = h.0 ∙ sym e; number_is = rw f h.1 }
+item_says s k ds e f None h = λ c t. h c.number (rw f at t.number_is)
 
 -- What is lent on after the first byte.
 abbrev rest : Str → Str

@@ -1,48 +1,24 @@
--- The parts of a line: what each function of this crate console_answers of one.
-use Rattle.std.specs.Prelude.{◌≡◌, Bool, true, false, [], ◌∷◌, ℕ, zero, suc, ◌+◌, ◌-◌, ◌<◌, ◌≤◌, length, take, drop}
+-- The parts of a line: what each function of this crate says of one.
+use Rattle.std.specs.Prelude.{◌≡◌, false, Option, Some, None, MatchOption, [], ◌∷◌, ℕ, ◌<◌, length}
+use Rattle.std.specs.List.{prefix_len}
+use denote.Ref.{Bor}
 use Rattle.source.specs.declared.ItemKind.{ItemKind}
 use Rattle.source.specs.declared.LidSymbol.{LidSymbol}
 use Rattle.script_decimal.specs.declared.Sort.{Sort}
 use Rattle.script_decimal.specs.declared.Sort.TheVariants.{Query, Word}
-use Rattle.script_parts.specs.declared.Extent.{Extent}
-use Rattle.script_parts.specs.declared.Part.{Part}
-use Rattle.script_parts.specs.declared.Part.TheVariants.{At, No}
 use Rattle.script_parts.specs.declared.Pair.{Pair}
-use Rattle.script_parts.specs.declared.Pair.TheVariants.{At as AtPair, No as NoPair}
-use Rattle.script_parts.specs.declared.Item.{Item}
-use Rattle.script_parts.specs.declared.Item.TheVariants.{At as AtItem, No as NoItem}
 use Rattle.script_parts.specs.declared.Tail.{Tail}
-use Rattle.script_parts.specs.declared.Tail.TheVariants.{At as AtTail, No as NoTail}
 use Rattle.script_decimal.specs.Bytes.{Str, bytes, ◌·◌, byte_ok, All}
 use Rattle.script_decimal.specs.Numerals.{Numeral}
 use Rattle.script_decimal.specs.Items.{ItemText}
 
--- The span lies in the line.
-abbrev pub Within : Str → Extent → Type 0
-Within line s = s.start + s.len ≤ length line
-
--- The bytes of a span.
-abbrev pub part_of : Str → Extent → Str
-part_of line s = take s.len (drop s.start line)
-
--- The bytes from at to e.
-abbrev pub cut : ℕ → ℕ → Str → Str
-cut at e line = take (e - at) (drop at line)
-
--- One more where the byte belongs.
-abbrev pub counted : Bool → ℕ → ℕ
-counted true n = suc n
-counted false n = zero
-
 -- How many bytes at the start may stand in a part.
-unfoldable pub run_length : Sort → Str → ℕ
-run_length sort [] = zero
-run_length sort (b ∷ s) = counted (byte_ok sort b) (run_length sort s)
+abbrev pub run_length : Sort → Str → ℕ
+run_length sort s = prefix_len (byte_ok sort) s
 
--- Whether the text stands at the start of s.
-abbrev pub StartsSays : Str → Str → Bool → Type 0
-StartsSays s text true = (length text ≤ length s) × (s ≡ text · drop (length text) s)
-StartsSays s text false = (rest : Str) → s ≡ text · rest → ⊥
+-- What follows the word that s begins with, or that it does not.
+abbrev pub WordSays : Str → Str → Option (Bor Str) → Type 0
+WordSays s word r = MatchOption r ((rest : Str) → s ≡ word · rest → ⊥) (λ rest. s ≡ word · rest.now)
 
 -- The text begins with a byte that may not stand in the part before it.
 abbrev pub Stops : Sort → Str → Type 0
@@ -54,32 +30,20 @@ pub record Piece (sort : Sort) (close s part rest : Str) : Type 0 where
   pub ok : All sort part
   pub spelled : s ≡ part · close · rest
 
--- A part of the line from at to e, and the text that closes it.
-pub record PieceAt (sort : Sort) (close line : Str) (at e : ℕ) : Type 0 where
-  pub start : at ≤ e
-  pub end : e + length close ≤ length line
-  pub piece : Piece sort close (drop at line) (cut at e line) (drop (e + length close) line)
-
--- The part that stands at at, or that none does.
-abbrev pub PieceSays : Sort → Str → Str → ℕ → Part → Type 0
-PieceSays sort close line at (At e) = PieceAt sort close line at e
-PieceSays sort close line at No = (part rest : Str) → Piece sort close (drop at line) part rest → ⊥
+-- The part that s begins with and the rest, or that there is none.
+abbrev pub PieceSays : Sort → Str → Str → Option (Bor Str × Bor Str) → Type 0
+PieceSays sort close s (Some p) = Piece sort close s p.0.now p.1.now
+PieceSays sort close s None = (part rest : Str) → Piece sort close s part rest → ⊥
 
 -- A query and the last two brackets.
 pub record QueryEnd (s q : Str) : Type 0 where
   pub query_ok : All Query q
   pub spelled : s ≡ q · bytes "]]"
 
--- The query from at to e, and the last two brackets.
-pub record QueryAt (line : Str) (at e : ℕ) : Type 0 where
-  pub start : at ≤ e
-  pub end : e + 2 ≡ length line
-  pub query : QueryEnd (drop at line) (cut at e line)
-
--- The query that ends the line from at on, or that none does.
-abbrev pub QuerySays : Str → ℕ → Part → Type 0
-QuerySays line at (At e) = QueryAt line at e
-QuerySays line at No = (q : Str) → QueryEnd (drop at line) q → ⊥
+-- The query that s is up to its last two brackets, or that it is none.
+abbrev pub QuerySays : Str → Option (Bor Str) → Type 0
+QuerySays s (Some q) = QueryEnd s q.now
+QuerySays s None = (q : Str) → QueryEnd s q → ⊥
 
 -- A host, a query and the last two brackets.
 pub record PairEnd (s host q : Str) : Type 0 where
@@ -87,32 +51,24 @@ pub record PairEnd (s host q : Str) : Type 0 where
   pub query_ok : All Query q
   pub spelled : s ≡ host · bytes "] [" · q · bytes "]]"
 
--- The host and the query that end the line from at on, or that none do.
-abbrev pub PairSays : Str → ℕ → Pair → Type 0
-PairSays line at (AtPair host q) =
-    Within line host × Within line q × PairEnd (drop at line) (part_of line host) (part_of line q)
-PairSays line at NoPair = (host q : Str) → PairEnd (drop at line) host q → ⊥
+-- The host and the query that s is up to its last two brackets, or that it is none.
+abbrev pub PairSays : Str → Option Pair → Type 0
+PairSays s (Some p) = PairEnd s p.host.now p.query.now
+PairSays s None = (host q : Str) → PairEnd s host q → ⊥
 
--- The line's last byte is a bracket, and e its place.
-pub record LastAt (line : Str) (at e : ℕ) : Type 0 where
-  pub start : at ≤ e
-  pub end : e + 1 ≡ length line
-  pub spelled : drop at line ≡ cut at e line · bytes "]"
-
--- The last bracket, at or after at, or that the line does not end so.
-abbrev pub LastSays : Str → ℕ → Part → Type 0
-LastSays line at (At e) = LastAt line at e
-LastSays line at No = (part : Str) → drop at line ≡ part · bytes "]" → ⊥
+-- What s is up to its last bracket, or that it does not end so.
+abbrev pub LastSays : Str → Option (Bor Str) → Type 0
+LastSays s r = MatchOption r ((part : Str) → s ≡ part · bytes "]" → ⊥) (λ part. s ≡ part.now · bytes "]")
 
 -- The item that is written, or that none is.
-abbrev pub ItemSays : Str → Item → Type 0
-ItemSays s (AtItem c) = ItemText s c
-ItemSays s NoItem = (c : LidSymbol) → ItemText s c → ⊥
+abbrev pub ItemSays : Str → Option LidSymbol → Type 0
+ItemSays s (Some c) = ItemText s c
+ItemSays s None = (c : LidSymbol) → ItemText s c → ⊥
 
 -- The item of a kind and of digits, or that they are no number.
-abbrev pub NumberedSays : ItemKind → Str → Item → Type 0
-NumberedSays k ds (AtItem c) = (c.kind ≡ k) × Numeral ds c.number
-NumberedSays k ds NoItem = (n : ℕ) → Numeral ds n → ⊥
+abbrev pub NumberedSays : ItemKind → Str → Option LidSymbol → Type 0
+NumberedSays k ds (Some c) = (c.kind ≡ k) × Numeral ds c.number
+NumberedSays k ds None = (n : ℕ) → Numeral ds n → ⊥
 
 -- An id, an item and the last bracket.
 pub record IdEnd (s id : Str) (c : LidSymbol) : Type 0 where
@@ -122,18 +78,7 @@ pub record IdEnd (s id : Str) (c : LidSymbol) : Type 0 where
   pub item : ItemText word c
   pub spelled : s ≡ id · bytes " " · word · bytes "]"
 
--- The id and the item that end the line from at on, or that none do.
-abbrev pub IdSays : Str → ℕ → Tail → Type 0
-IdSays line at (AtTail id c) = Within line id × IdEnd (drop at line) (part_of line id) c
-IdSays line at NoTail = (id : Str) (c : LidSymbol) → IdEnd (drop at line) id c → ⊥
-
--- The word stands at the line's start, up to at.
-pub record WordAt (line word : Str) (at : ℕ) : Type 0 where
-  pub end : at ≤ length line
-  pub long : at ≡ length word
-  pub spelled : line ≡ word · drop at line
-
--- Where the word at the line's start ends, or that it does not stand there.
-abbrev pub WordSays : Str → Str → Part → Type 0
-WordSays line word (At at) = WordAt line word at
-WordSays line word No = (rest : Str) → line ≡ word · rest → ⊥
+-- The id and the item that s is up to its last bracket, or that it is none.
+abbrev pub IdSays : Str → Option Tail → Type 0
+IdSays s (Some t) = IdEnd s t.id.now t.item
+IdSays s None = (id : Str) (c : LidSymbol) → IdEnd s id c → ⊥

@@ -1,228 +1,118 @@
-// The parts of a line: a run of bytes of one sort, what closes it, and where it ends. Nothing is known of the forms of a script.
+// The parts of a line: a run of bytes of one sort, what closes it, and what follows. Nothing is known of the forms of a script.
 #![tactic(auto)]
 
-ghost use Rattle.std.specs.Prelude.{◌≡◌, ◌+◌, ◌≤◌, length, get_or, drop};
-ghost use Rattle.script_parts.specs.Parts.{run_length, StartsSays, Stops, PieceSays, QuerySays, PairSays, LastSays, NumberedSays, ItemSays, IdSays};
-ghost use Rattle.script_parts.specs.Parts.{WordSays};
+ghost use Rattle.std.specs.Prelude.{◌≡◌};
+ghost use Rattle.script_parts.specs.Parts.{run_length, Stops, WordSays, PieceSays, QuerySays, PairSays, LastSays, NumberedSays, ItemSays, IdSays};
 ghost use Rattle.script_decimal.specs.Bytes.{LineEnd};
 
-use script_decimal::{Number, Sort};
+use script_decimal::digits::numeral;
+use script_decimal::{Sort, byte_ok};
 use source::{ItemKind, LidSymbol};
 
-// A part of a line: where it starts, and its length.
+// A host and a query.
 #[derive(Clone, Copy)]
-pub struct Extent {
-    pub start: usize,
-    pub len: usize,
+pub struct Pair<'a> {
+    pub host: &'a [u8],
+    pub query: &'a [u8],
 }
 
-// Where a part ends, or that it does not stand there.
+// An id and an item.
 #[derive(Clone, Copy)]
-pub enum Part {
-    At(usize),
-    No,
+pub struct Tail<'a> {
+    pub id: &'a [u8],
+    pub item: LidSymbol,
 }
 
-// A host and a query, or that they do not stand there.
-#[derive(Clone, Copy)]
-pub enum Pair {
-    At { host: Extent, query: Extent },
-    No,
-}
-
-// An item, or that none is written.
-#[derive(Clone, Copy)]
-pub enum Item {
-    At(LidSymbol),
-    No,
-}
-
-// An id and an item, or that they do not stand there.
-#[derive(Clone, Copy)]
-pub enum Tail {
-    At { id: Extent, item: LidSymbol },
-    No,
-}
-
-// Where the bytes from `at` on that may stand in a part end.
-fn run(line: &[u8], at: usize, sort: Sort) -> usize
-    requires { at ≤ length line.now }
-    ensures { result ≡ at + run_length sort (drop at line.now) }
+// How many bytes at the start of `s` may stand in a part.
+fn run(s: &[u8], sort: Sort) -> usize
+    ensures { result ≡ run_length sort s.now }
 {
-    let mut i = at;
-    while i < line.len() {
-        if !script_decimal::byte_ok(sort, line[i]) {
-            return i;
-        }
-        i += 1;
-    }
-    i
+    s.iter().take_while(|b| byte_ok(sort, **b)).count()
 }
 
-// Whether `text` stands at `at`.
-fn starts(line: &[u8], at: usize, text: &[u8]) -> bool
-    requires { at ≤ length line.now }
-    ensures { StartsSays (drop at line.now) text.now result }
+// What follows `word`, where `s` begins with it.
+pub fn word_end<'a>(s: &'a [u8], word: &[u8]) -> Option<&'a [u8]>
+    ensures { WordSays s.now word.now result }
 {
-    if line.len() - at < text.len() {
-        return false;
-    }
-    let mut i = 0;
-    while i < text.len() {
-        if line[at + i] != text[i] {
-            return false;
-        }
-        i += 1;
-    }
-    true
+    s.strip_prefix(word)
 }
 
-// The end of the part at `at`, where `close` follows it.
-pub fn piece(line: &[u8], at: usize, sort: Sort, close: &[u8]) -> Part
-    requires { (at ≤ length line.now) × Stops sort close.now }
-    ensures { PieceSays sort close.now line.now at result }
+// The part at the start of `s`, where `close` follows it, and what follows that.
+pub fn piece<'a>(s: &'a [u8], sort: Sort, close: &[u8]) -> Option<(&'a [u8], &'a [u8])>
+    requires { Stops sort close.now }
+    ensures { PieceSays sort close.now s.now result }
 {
-    let e = run(line, at, sort);
-    if starts(line, e, close) {
-        return Part::At(e);
-    }
-    Part::No
+    let (part, closed) = s.split_at(run(s, sort));
+    let rest = word_end(closed, close)?;
+    Some((part, rest))
 }
 
-// The end of `word` at the line's start.
-pub fn word_end(line: &[u8], word: &[u8]) -> Part
-    ensures { WordSays line.now word.now result }
+// The query that the two brackets at the end of `s` close.
+#[tactic(auto, unfolding(script_decimal::specs::Bytes::byte_ok))]
+pub fn query_end(s: &[u8]) -> Option<&[u8]>
+    ensures { QuerySays s.now result }
 {
-    if starts(line, 0, word) {
-        return Part::At(word.len());
+    let (query, rest) = piece(s, Sort::Query, b"]]")?;
+    if !rest.is_empty() {
+        return None;
     }
-    Part::No
+    Some(query)
 }
 
-// The end of a query that is followed by the line's last two brackets.
-pub fn query_end(line: &[u8], at: usize) -> Part
-    requires { at ≤ length line.now }
-    ensures { QuerySays line.now at result }
+// A host and a query, up to the two brackets at the end of `s`.
+#[tactic(auto, unfolding(script_decimal::specs::Bytes::byte_ok))]
+pub fn pair_end(s: &[u8]) -> Option<Pair<'_>>
+    ensures { PairSays s.now result }
 {
-    match piece(line, at, Sort::Query, b"]]") {
-        Part::At(e) => {
-            if e + 2 == line.len() {
-                return Part::At(e);
-            }
-            Part::No
-        }
-        Part::No => Part::No,
-    }
+    let (host, rest) = piece(s, Sort::Query, b"] [")?;
+    let query = query_end(rest)?;
+    Some(Pair { host, query })
 }
 
-// A host and a query, up to the line's last two brackets.
-pub fn pair_end(line: &[u8], at: usize) -> Pair
-    requires { at ≤ length line.now }
-    ensures { PairSays line.now at result }
+// What the bracket at the end of `s` closes.
+pub fn last_end(s: &[u8]) -> Option<&[u8]>
+    ensures { LastSays s.now result }
 {
-    match piece(line, at, Sort::Query, b"] [") {
-        Part::At(e) => match query_end(line, e + 3) {
-            Part::At(f) => Pair::At {
-                host: Extent {
-                    start: at,
-                    len: e - at,
-                },
-                query: Extent {
-                    start: e + 3,
-                    len: f - (e + 3),
-                },
-            },
-            Part::No => Pair::No,
-        },
-        Part::No => Pair::No,
-    }
-}
-
-// The place of the line's last bracket, at or after `at`.
-pub fn last_end(line: &[u8], at: usize) -> Part
-    ensures { LastSays line.now at result }
-{
-    if line.len() <= at {
-        return Part::No;
-    }
-    let e = line.len() - 1;
-    if line[e] == b']' {
-        return Part::At(e);
-    }
-    Part::No
-}
-
-// The byte at `i`, or 0 past the line's end.
-pub fn byte_at(line: &[u8], i: usize) -> u8
-    ensures { result ≡ get_or line.now i 0 }
-{
-    if i < line.len() {
-        return line[i];
-    }
-    0
+    s.strip_suffix(b"]")
 }
 
 // The item of the kind whose number the digits are.
-fn numbered(digits: &[u8], kind: ItemKind) -> Item
+fn numbered(digits: &[u8], kind: ItemKind) -> Option<LidSymbol>
     ensures { NumberedSays kind digits.now result }
 {
-    match script_decimal::digits::numeral(digits) {
-        Number::At(n) => Item::At(LidSymbol {
-            kind: kind,
-            number: n,
-        }),
-        Number::No => Item::No,
-    }
+    let number = numeral(digits)?;
+    Some(LidSymbol { kind, number })
 }
 
 // The item that the text is: a letter and a number, or the number of a Register.
-pub fn item_of(text: &[u8]) -> Item
+pub fn item_of(text: &[u8]) -> Option<LidSymbol>
     ensures { ItemSays text.now result }
 {
-    let letter = byte_at(text, 0);
-    if letter == b't' {
-        return numbered(&text[1..], ItemKind::Timer);
+    match text {
+        [b't', digits @ ..] => numbered(digits, ItemKind::Timer),
+        [b'p', digits @ ..] => numbered(digits, ItemKind::Port),
+        [b'r', digits @ ..] => numbered(digits, ItemKind::Register),
+        _ => numbered(text, ItemKind::Register),
     }
-    if letter == b'p' {
-        return numbered(&text[1..], ItemKind::Port);
-    }
-    if letter == b'r' {
-        return numbered(&text[1..], ItemKind::Register);
-    }
-    numbered(text, ItemKind::Register)
 }
 
-// An id and an item, up to the line's last bracket.
-pub fn id_end(line: &[u8], at: usize) -> Tail
-    requires { at ≤ length line.now }
-    ensures { IdSays line.now at result }
+// An id and an item, up to the bracket at the end of `s`.
+#[tactic(auto, unfolding(script_decimal::specs::Bytes::byte_ok))]
+pub fn id_end(s: &[u8]) -> Option<Tail<'_>>
+    ensures { IdSays s.now result }
 {
-    match piece(line, at, Sort::Word, b" ") {
-        Part::At(e) => {
-            if e == at {
-                return Tail::No;
-            }
-            match last_end(line, e + 1) {
-                Part::At(f) => match item_of(&line[e + 1..f]) {
-                    Item::At(item) => Tail::At {
-                        id: Extent {
-                            start: at,
-                            len: e - at,
-                        },
-                        item: item,
-                    },
-                    Item::No => Tail::No,
-                },
-                Part::No => Tail::No,
-            }
-        }
-        Part::No => Tail::No,
+    let (id, rest) = piece(s, Sort::Word, b" ")?;
+    if id.is_empty() {
+        return None;
     }
+    let word = last_end(rest)?;
+    let item = item_of(word)?;
+    Some(Tail { id, item })
 }
 
 // Where the first line of `input` ends: at its line feed, or at the end of `input`.
 pub fn line_end(input: &[u8]) -> usize
     ensures { LineEnd input.now result }
 {
-    run(input, 0, Sort::Line)
+    run(input, Sort::Line)
 }

@@ -27,12 +27,9 @@ fn put(out: &mut [u8], at: usize, text: &[u8]) -> usize
     requires { at + length text.now ≤ length out.old }
     ensures { Laid out.old out.new at result text.now }
 {
-    let mut i = 0;
-    while i < text.len() {
-        out[at + i] = text[i];
-        i += 1;
-    }
-    at + i
+    let end = at + text.len();
+    out[at..end].copy_from_slice(text);
+    end
 }
 
 // Writes a word and a number, in brackets.
@@ -46,6 +43,7 @@ fn put_counted(out: &mut [u8], at: usize, word: &[u8], n: u32) -> usize
 }
 
 // `[ok R]`
+#[tactic(auto, unfolding(crate::specs::Replies::ok_reply, script_decimal::specs::Bytes::bytes))]
 pub fn put_ok(out: &mut [u8], at: usize, records: u32) -> usize
     requires { at + reply_room ≤ length out.old }
     ensures { Laid out.old out.new at result (ok_reply records) }
@@ -58,8 +56,7 @@ fn put_name(out: &mut [u8], at: usize, item: LidSymbol) -> usize
     requires { at + 11 ≤ length out.old }
     ensures { Laid out.old out.new at result (name_text item) × (result ≤ at + 11) }
 {
-    let kind = item.kind;
-    let letter = [source_item::letter_of(kind)];
+    let letter = [source_item::letter_of(item.kind)];
     let a = put(out, at, &letter);
     put_number(out, a, item.number)
 }
@@ -75,6 +72,7 @@ pub fn put_found(out: &mut [u8], at: usize, item: LidSymbol) -> usize
 }
 
 // `[none]`
+#[tactic(auto, unfolding(crate::specs::Replies::none_reply, script_decimal::specs::Bytes::bytes))]
 pub fn put_none(out: &mut [u8], at: usize) -> usize
     requires { at + reply_room ≤ length out.old }
     ensures { Laid out.old out.new at result none_reply }
@@ -83,6 +81,7 @@ pub fn put_none(out: &mut [u8], at: usize) -> usize
 }
 
 // `[refused C]`
+#[tactic(auto, unfolding(crate::specs::Replies::refused_reply, script_decimal::specs::Bytes::bytes))]
 pub fn put_refused(out: &mut [u8], at: usize, code: u32) -> usize
     requires { at + reply_room ≤ length out.old }
     ensures { Laid out.old out.new at result (refused_reply code) }
@@ -91,6 +90,7 @@ pub fn put_refused(out: &mut [u8], at: usize, code: u32) -> usize
 }
 
 // `[bad]`
+#[tactic(auto, unfolding(crate::specs::Replies::bad_reply, script_decimal::specs::Bytes::bytes))]
 pub fn put_bad(out: &mut [u8], at: usize) -> usize
     requires { at + reply_room ≤ length out.old }
     ensures { Laid out.old out.new at result bad_reply }
@@ -99,6 +99,7 @@ pub fn put_bad(out: &mut [u8], at: usize) -> usize
 }
 
 // Writes an item.
+#[tactic(auto, unfolding(crate::specs::Replies::item_text, script_decimal::specs::Bytes::bytes))]
 fn put_item(out: &mut [u8], at: usize, item: ItemReply) -> usize
     requires { at + 11 ≤ length out.old }
     ensures { Laid out.old out.new at result (item_text item) × (result ≤ at + 11) }
@@ -126,7 +127,7 @@ fn put_word(out: &mut [u8], at: usize, word: u32) -> usize
     requires { at + 10 ≤ length out.old }
     ensures { Laid out.old out.new at result (signed (signed_word word)) × (result ≤ at + 10) }
 {
-    if word == 4294967295 {
+    if word == u32::MAX {
         return put(out, at, b"-1");
     }
     put_number(out, at, word)

@@ -4,4 +4,4 @@ use Rattle.console_backlog.proofs.is_line.Goals as goal
 
 pub returns : goal.returns
 returns c =
-    is_line c.args.left.now
+    is_line c.args.left.now c.is_empty.result c.is_empty.ensures

@@ -28,12 +28,7 @@ returns-then-from-r c =
     steps_on (c.requires.inside)
     c.answer_lines-r.ensures (omega arith)
 
-pub keep-n-requires : goal.keep-n-requires
-keep-n-requires c =
-    let pre = c.requires.inside in
-    (pre.started, pre.ended)
-
 pub returns : goal.returns
 returns c =
     steps_out (c.requires.inside)
-    (c.answer_lines-r.ensures) (omega arith) (search rules) c.keep-n.ensures
+    (c.answer_lines-r.ensures) (omega arith) (search rules) c.keep-kept.ensures

@@ -1,55 +1,29 @@
 -- `alias_form` answers for every form: a line that begins so can be no other.
-use mathlib.Core.Path.{subst}
-use native.Mathlib.Omega.{arith}
-use Rattle.script.specs.Script.{key}
-use Rattle.script_decimal.specs.Bytes.{bytes}
-use Rattle.script_parts.specs.Parts.{WordSays, PieceSays, PairSays}
-use Rattle.script_parts.proofs.Parts.{stops_word}
+use Rattle.std.proofs.Common.{sym, ◌∙◌}
+use borrow.Author.Tests.{eqb-true, eqb-false}
 use Rattle.script.proofs.Forms.{word_none, alias_none, alias_empty, alias_no, alias_yes}
 use Rattle.script.proofs.alias_form.Goals as goal
 
-pub piece-requires : goal.piece-requires
-piece-requires c =
-    ((subst (WordSays _ _) c.in-At.is c.word_end.ensures).end, stops_word)
+pub returns-in_err-begun : goal.returns-in_err-begun
+returns-in_err-begun c =
+    rw c.from_residual.ensures (word_none c.requires (rw c.word_of.ensures at c.in_err-begun.ensures))
 
-pub returns-then-e-at : goal.returns-then-e-at
-unfolding key bytes
-returns-then-e-at c =
-    alias_empty c.requires (subst (WordSays _ _) c.in-At.is c.word_end.ensures)
-    (subst (PieceSays _ _ _ _) c.in-At-piece.is c.piece.ensures) c.if-e-at.true
+pub returns-in_err-key : goal.returns-in_err-key
+returns-in_err-key c =
+    rw c.from_residual-in_err-key.ensures
+    (alias_none c.requires (rw c.word_of.ensures at c.in_ok-begun.ensures) c.in_err-key.ensures)
 
-pub overflow_add-e : goal.overflow_add-e
-overflow_add-e c =
-    omega (arith, (subst (PieceSays _ _ _ _) c.in-At-piece.is c.piece.ensures).end)
+pub returns-then-is_empty : goal.returns-then-is_empty
+returns-then-is_empty c =
+    alias_empty c.requires (rw c.word_of.ensures at c.in_ok-begun.ensures) c.in_ok-key.ensures
+    (eqb-true _ 0 (sym c.is_empty.ensures ∙ c.if-is_empty.true))
 
-pub pair_end-requires : goal.pair_end-requires
-pair_end-requires c =
-    (subst (PieceSays _ _ _ _) c.in-At-piece.is c.piece.ensures).end
+pub returns-in_err-host : goal.returns-in_err-host
+returns-in_err-host c =
+    rw c.from_residual-in_err-host.ensures
+    (alias_no c.requires (rw c.word_of.ensures at c.in_ok-begun.ensures) c.in_ok-key.ensures c.in_err-host.ensures)
 
-pub overflow_sub-result : goal.overflow_sub-result
-overflow_sub-result c =
-    (subst (PieceSays _ _ _ _) c.in-At-piece.is c.piece.ensures).start
-
-pub returns-in-At-pair_end : goal.returns-in-At-pair_end
-unfolding key bytes
-returns-in-At-pair_end c =
-    alias_yes c.requires (subst (WordSays _ _) c.in-At.is c.word_end.ensures)
-    (subst (PieceSays _ _ _ _) c.in-At-piece.is c.piece.ensures) c.if-e-at.false _ _
-    (subst (PairSays _ _) c.in-At-pair_end.is c.pair_end.ensures)
-
-pub returns-in-No-pair_end : goal.returns-in-No-pair_end
-unfolding key bytes
-returns-in-No-pair_end c =
-    alias_no c.requires (subst (WordSays _ _) c.in-At.is c.word_end.ensures)
-    (subst (PieceSays _ _ _ _) c.in-At-piece.is c.piece.ensures) (subst (PairSays _ _) c.in-No-pair_end.is c.pair_end.ensures)
-
-pub returns-in-No-piece : goal.returns-in-No-piece
-unfolding key bytes
-returns-in-No-piece c =
-    alias_none c.requires (subst (WordSays _ _) c.in-At.is c.word_end.ensures)
-    (subst (PieceSays _ _ _ _) c.in-No-piece.is c.piece.ensures)
-
-pub returns-in-No : goal.returns-in-No
-unfolding key bytes
-returns-in-No c =
-    word_none c.requires (subst (WordSays _ _) c.in-No.is c.word_end.ensures)
+pub returns : goal.returns
+returns c =
+    alias_yes c.requires (rw c.word_of.ensures at c.in_ok-begun.ensures) c.in_ok-key.ensures
+    (eqb-false _ 0 (sym c.is_empty.ensures ∙ c.if-is_empty.false)) c.in_ok-host.ensures

@@ -1,16 +1,11 @@
--- `last_end` answers by its definition.
-use native.Mathlib.Omega.{arith}
-use Rattle.script_parts.proofs.Runs.{bracket_last, last_none, last_other}
+-- `last_end`: the text ends in a bracket.
+use Rattle.std.proofs.Common.{[], ◌∷◌}
+use Rattle.std.proofs.lemmas.Bool.Decides.{Decides-eqb}
+use Rattle.std.proofs.lemmas.Slice.Eq.{strip_suffix_is}
+use Rattle.script_decimal.specs.Bytes.{bytes}
 use Rattle.script_parts.proofs.last_end.Goals as goal
 
-pub returns-then-line-at : goal.returns-then-line-at
-returns-then-line-at c =
-    last_none c.args.line.now c.args.at c.if-line-at.true
-
-pub returns-then-line-e-eq93 : goal.returns-then-line-e-eq93
-returns-then-line-e-eq93 c =
-    bracket_last c.args.line.now c.args.at _ c.if-line-at.false (omega arith) c.if-line-e-eq93.true
-
 pub returns : goal.returns
+unfolding bytes
 returns c =
-    last_other c.args.line.now c.args.at _ c.if-line-at.false (omega arith) c.if-line-e-eq93.false
+    strip_suffix_is Decides-eqb c.args.s.now (93 ∷ []) c.strip_suffix.result c.strip_suffix.ensures.cases

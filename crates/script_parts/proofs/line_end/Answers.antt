@@ -1,4 +1,4 @@
--- `line_end` answers by its definition.
+-- `line_end`: the line is the run of bytes that are no line feed.
 use Rattle.script_parts.proofs.Parts.{line_ends}
 use Rattle.script_parts.proofs.line_end.Goals as goal
 

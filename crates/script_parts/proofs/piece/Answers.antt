@@ -1,19 +1,19 @@
--- `piece` answers by its definition.
-use mathlib.Core.Path.{subst}
-use Rattle.script_parts.specs.Parts.{StartsSays}
-use Rattle.script_parts.proofs.Parts.{run_within, piece_yes, piece_no}
+-- `piece`: the run is the part, where `close` follows it.
+use Rattle.std.proofs.Common.{arith, ap, ◌∙◌, take, drop}
+use Rattle.script_parts.proofs.Runs.{run_le}
+use Rattle.script_parts.proofs.Parts.{piece_yes, piece_no}
 use Rattle.script_parts.proofs.piece.Goals as goal
 
-pub starts-requires : goal.starts-requires
-starts-requires c =
-    run_within c.args.sort c.args.close.now c.args.line.now c.args.at c.run-e.result c.run-e.ensures c.requires.0
+pub split_at-requires : goal.split_at-requires
+split_at-requires c = omega (arith, c.run.ensures, run_le c.args.sort c.args.s.now)
 
-pub returns-then-starts : goal.returns-then-starts
-returns-then-starts c =
-    piece_yes c.args.sort c.args.close.now c.args.line.now c.args.at c.run-e.result c.run-e.ensures c.requires.0
-    (subst (StartsSays _ _) c.if-starts.true c.starts.ensures)
+pub returns-in_err-rest : goal.returns-in_err-rest
+returns-in_err-rest c =
+    rw c.from_residual.ensures
+    (piece_no c.requires (c.split_at.ensures.back ∙ ap (λ n. drop n c.args.s.now) c.run.ensures) c.in_err-rest.ensures)
 
 pub returns : goal.returns
 returns c =
-    piece_no c.args.sort c.args.close.now c.args.line.now c.args.at c.run-e.result c.run-e.ensures c.requires.0 c.requires.1
-    (subst (StartsSays _ _) c.if-starts.false c.starts.ensures)
+    let s = c.split_at.ensures in
+    piece_yes (s.front ∙ ap (λ n. take n c.args.s.now) c.run.ensures) (s.back ∙ ap (λ n. drop n c.args.s.now) c.run.ensures)
+    c.in_ok-rest.ensures

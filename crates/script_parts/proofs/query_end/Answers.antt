@@ -1,26 +1,17 @@
--- `query_end` answers by its definition.
-use mathlib.Core.Path.{subst}
-use native.Mathlib.Omega.{arith}
-use Rattle.script_parts.specs.Parts.{PieceSays}
-use Rattle.script_parts.proofs.Parts.{stops_query, query_piece, query_yes, query_no}
+-- `query_end`: nothing may follow the two brackets.
+use Rattle.std.proofs.Common.{sym, ◌∙◌}
+use borrow.Author.Tests.{eqb-true, eqb-false}
+use Rattle.script_parts.proofs.Parts.{query_piece, query_yes, query_no}
 use Rattle.script_parts.proofs.query_end.Goals as goal
 
-pub piece-requires : goal.piece-requires
-piece-requires c =
-    (c.requires, stops_query)
+pub returns-in_err-query : goal.returns-in_err-query
+returns-in_err-query c =
+    rw c.from_residual.ensures (λ q r. c.in_err-query.ensures q _ (query_piece r))
 
-pub overflow_add-e : goal.overflow_add-e
-overflow_add-e c =
-    omega (arith, (subst (PieceSays _ _ _ _) c.in-At.is c.piece.ensures).end)
+pub returns-then-not-is_empty : goal.returns-then-not-is_empty
+returns-then-not-is_empty c =
+    query_no c.in_ok-query.ensures (eqb-false _ 0 (sym c.is_empty.ensures ∙ c.if-not-is_empty.true))
 
-pub returns-then-e-line : goal.returns-then-e-line
-returns-then-e-line c =
-    query_yes (subst (PieceSays _ _ _ _) c.in-At.is c.piece.ensures) c.if-e-line.true
-
-pub returns-else-e-line : goal.returns-else-e-line
-returns-else-e-line c =
-    query_no (subst (PieceSays _ _ _ _) c.in-At.is c.piece.ensures) c.if-e-line.false
-
-pub returns-in-No : goal.returns-in-No
-returns-in-No c =
-    λ q r. subst (PieceSays _ _ _ _) c.in-No.is c.piece.ensures q _ (query_piece r)
+pub returns : goal.returns
+returns c =
+    query_yes c.in_ok-query.ensures (eqb-true _ 0 (sym c.is_empty.ensures ∙ c.if-not-is_empty.false))

@@ -1,12 +1,8 @@
--- `word_end` answers by its definition.
-use mathlib.Core.Path.{refl, subst}
-use Rattle.script_parts.specs.Parts.{StartsSays}
+-- `word_end`: what `strip_prefix` tests byte by byte is one equation.
+use Rattle.std.proofs.lemmas.Bool.Decides.{Decides-eqb}
+use Rattle.std.proofs.lemmas.Slice.Eq.{strip_prefix_is}
 use Rattle.script_parts.proofs.word_end.Goals as goal
-
-pub returns-then-starts : goal.returns-then-starts
-returns-then-starts c =
-    let s = (subst (StartsSays _ _) c.if-starts.true c.starts.ensures) in record { end = s.0; long = refl; spelled = s.1 }
 
 pub returns : goal.returns
 returns c =
-    (subst (StartsSays _ _) c.if-starts.false c.starts.ensures)
+    strip_prefix_is Decides-eqb c.args.s.now c.args.word.now c.strip_prefix.result c.strip_prefix.ensures.cases

@@ -1,25 +1,21 @@
--- `put`: what is behind `i` is written.
-use native.Mathlib.Omega.{arith}
-use lib.Seq.{take_all}
-use Rattle.text.proofs.Laid.{laid_length, laid_none, laid_step}
+-- `put`: the part of the text's length from `at` on is the text.
+use Rattle.std.proofs.Common.{◌≡◌, ℕ, ◌+◌, ◌-◌, ◌≤◌, List, ◌++◌, length, take, drop, refl, ap, ap₂, ◌∙◌, arith}
+use lib.Seq.{drop-drop}
+use borrow.Rule.Slice.PartMut.{put_mid}
+use Rattle.text.specs.Laid.{Laid}
 use Rattle.script_replies.proofs.put.Goals as goal
 
-pub loop-i-init : goal.loop-i-init
-loop-i-init c =
-    (omega arith, laid_none c.args.out.now c.args.at _ (omega arith) (omega arith))
-
-pub bounds-out-at : goal.bounds-out-at
-bounds-out-at c =
-    omega (arith, laid_length c.loop-i.invariant.1)
-
-pub loop-i-preserved : goal.loop-i-preserved
-loop-i-preserved c =
-    (omega arith, laid_step c.args.text.now c.loop-i.invariant.1 c.loop-i-test.true (omega arith))
-
-pub shape_of-out : goal.shape_of-out
-shape_of-out c =
-    laid_length c.loop-i.invariant.1
+laid_part : (d part s : List ℕ) (at : ℕ) → part ≡ s → at + length s ≤ length d
+    → Laid d (put_mid at (at + length s - at) d part) at (at + length s) s
+laid_part d part s at e h =
+    let n : at + length s - at ≡ length s = omega arith in
+    record {
+      end = refl;
+      fits = h;
+      is = ap₂ (λ (t : List ℕ) (k : ℕ). take at d ++ (t ++ drop k (drop at d))) e n
+          ∙ ap (λ (t : List ℕ). take at d ++ (s ++ t)) (drop-drop (length s) at d);
+    }
 
 pub returns : goal.returns
 returns c =
-    rw (take_all c.loop-i.i c.args.text.now c.loop-i-test.false) at c.loop-i.invariant.1
+    laid_part c.args.out.now c.copy_from_slice.new.self c.args.text.now c.args.at c.copy_from_slice.ensures.after c.requires

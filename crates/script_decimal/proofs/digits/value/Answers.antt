@@ -1,35 +1,33 @@
--- `value`: `v` is the number of the digits behind `i`.
-use mathlib.Core.Path.{refl, sym, ◌∙◌}
-use native.Mathlib.Omega.{arith}
+-- `value`: `v` is the number of the digits so far.
+use Rattle.std.proofs.Common.{sym, ◌∙◌, arith}
 use Rattle.script_decimal.proofs.Numerals.{digit_bounds, counted_more, counted_over, counted_other, counted_done}
 use Rattle.script_decimal.proofs.digits.value.Goals as goal
 
-pub loop-i-init : goal.loop-i-init
-loop-i-init c =
-    record { below = omega arith; digits = tt; value = refl; fits = omega arith }
-
 pub returns-then-not-byte_ok : goal.returns-then-not-byte_ok
 returns-then-not-byte_ok c =
-    counted_other c.loop-i.invariant c.loop-i-test.true
-    (sym c.byte_ok.ensures ∙ c.if-not-byte_ok.true)
+    counted_other c.loop-b.invariant c.loop-b-test.true (sym c.byte_ok.ensures ∙ c.if-not-byte_ok.true)
 
-pub overflow_sub-v : goal.overflow_sub-v
-overflow_sub-v c =
+pub returns-in_err-checked_mul : goal.returns-in_err-checked_mul
+returns-in_err-checked_mul c =
+    rw c.from_residual.ensures
+    (counted_over c.loop-b.invariant c.loop-b-test.true (omega (arith, c.in_err-checked_mul.ensures)))
+
+pub overflow_sub-b : goal.overflow_sub-b
+overflow_sub-b c =
     omega (arith, (digit_bounds _ (sym c.byte_ok.ensures ∙ c.if-not-byte_ok.false)).0)
 
-pub overflow_add-v : goal.overflow_add-v
-overflow_add-v c =
-    omega (arith, (digit_bounds _ (sym c.byte_ok.ensures ∙ c.if-not-byte_ok.false)).1)
+pub returns-in_err-v : goal.returns-in_err-v
+returns-in_err-v c =
+    rw c.from_residual-in_err-v.ensures
+    (counted_over c.loop-b.invariant c.loop-b-test.true
+    (omega (arith, c.in_err-v.ensures, c.in_ok-checked_mul.ensures.1, c.from.ensures)))
 
-pub returns-then-v-gt4294967295 : goal.returns-then-v-gt4294967295
-returns-then-v-gt4294967295 c =
-    counted_over c.loop-i.invariant c.loop-i-test.true (omega arith)
-
-pub loop-i-preserved : goal.loop-i-preserved
-loop-i-preserved c =
-    counted_more c.loop-i.invariant c.loop-i-test.true
-    (sym c.byte_ok.ensures ∙ c.if-not-byte_ok.false) (omega arith) (omega arith)
+pub loop-b-preserved : goal.loop-b-preserved
+loop-b-preserved c =
+    counted_more c.loop-b.invariant c.loop-b-test.true (sym c.byte_ok.ensures ∙ c.if-not-byte_ok.false)
+    (omega (arith, c.in_ok-v.ensures.1, c.in_ok-checked_mul.ensures.1, c.from.ensures))
+    (omega (arith, c.in_ok-v.ensures.0, c.in_ok-v.ensures.1))
 
 pub returns : goal.returns
 returns c =
-    counted_done c.loop-i.invariant (omega arith)
+    counted_done c.loop-b.invariant (omega arith)

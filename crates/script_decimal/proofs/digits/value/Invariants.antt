@@ -1,13 +1,7 @@
--- `value`: `v` is the number of the digits behind `i`.
-use Prim.Native.Nat.{◌-◌}
-use lib.ListN.{length}
+-- `value`: `v` is the number of the digits so far.
 use Rattle.script_decimal.proofs.Numerals.{Counted}
 use Rattle.script_decimal.proofs.digits.value.Given as goal
 
-abbrev pub invariant-loop-i : goal.invariant-loop-i
-invariant-loop-i l =
-    Counted l.digits l.v l.i
-
-abbrev pub decreases-loop-i : goal.decreases-loop-i
-decreases-loop-i l =
-    length l.digits - l.i
+abbrev pub invariant-loop-b : goal.invariant-loop-b
+invariant-loop-b l =
+    Counted l.digits l.v l.b-index
