@@ -1,6 +1,5 @@
 -- `shared_length` meets its contract: what the first i candidates share is the front of the first.
 use mathlib.Core.Path.{refl, sym, ap, ◌∙◌}
-use lib.Seq.{length-take-le}
 use native.Mathlib.Omega.{arith}
 use Rattle.memory.specs.declared.Span.{Span}
 use Rattle.listing_shared.proofs.Shared.{first_texts, first_length, narrowed_start, next_text, narrowed_next, narrowed_none, narrowed_end}
@@ -10,10 +9,6 @@ use Rattle.listing_shared.proofs.shared_length.Goals as goal
 pub returns-then-n-eq0 : goal.returns-then-n-eq0
 returns-then-n-eq0 c =
     rw c.if-n-eq0.true (sym (none_seen _ _))
-
-pub candidate_at-candidate-requires : goal.candidate_at-candidate-requires
-candidate_at-candidate-requires c =
-    omega (arith, c.requires.whole)
 
 pub text_of-first-requires : goal.text_of-first-requires
 text_of-first-requires c =
@@ -28,17 +23,9 @@ pub returns-then-shared-eq0 : goal.returns-then-shared-eq0
 returns-then-shared-eq0 c =
     narrowed_none c.loop-i.invariant c.if-shared-eq0.true
 
-pub candidate_at-requires : goal.candidate_at-requires
-candidate_at-requires c =
-    omega (arith, c.requires.whole)
-
 pub text_of-next-requires : goal.text_of-next-requires
 text_of-next-requires c =
     rw c.candidate_at.ensures (next_text c.loop-i.invariant (omega arith)).0
-
-pub slice_bounds-string_compare-end : goal.slice_bounds-string_compare-end
-slice_bounds-string_compare-end c =
-    sym (length-take-le _ _ c.loop-i.invariant.short)
 
 pub loop-i-preserved : goal.loop-i-preserved
 loop-i-preserved c =
