@@ -13,6 +13,9 @@ use register_kind::Entry;
 use script::LineForm;
 use table::Table;
 
+// Room for any reply, the two texts of a line apart.
+const REPLY_ROOM: usize = 40;
+
 // The table after some lines of an input, where their replies end, and where the next line starts.
 #[derive(Clone, Copy)]
 pub struct AfterLines {
@@ -21,6 +24,7 @@ pub struct AfterLines {
     pub next: usize,
 }
 
+// What is lent goes apart, here and in the crates above, as the calls of `Table` take it: a struct would be taken apart at each call.
 // The answer to a line, without its line feed: its call is made and its reply written at `at`. The lines of a
 // completion stand in `flat` and `pane`.
 pub fn answer(
@@ -88,10 +92,11 @@ pub fn answer_lines(
     ensures { Talked words.old text.old words.new text.new table input.now from flat.old flat.new
         pane.old pane.new reply.old reply.new result }
 {
-    let size = flat.len() / listing_output::LINE_BYTES * 40 + pane.len() + 40;
+    let size = flat.len() / listing_output::LINE_BYTES * REPLY_ROOM + pane.len() + REPLY_ROOM;
     let mut t = table;
     let mut at = 0;
     let mut i = from;
+    // The turns go by the room that is left, not by a number of lines.
     while size <= reply.len() - at {
         let e = i + script_parts::line_end(&input[i..]);
         if e == input.len() {

@@ -20,6 +20,9 @@ use script_replies::ItemReply;
 use source::{KindFilter, LidSymbol};
 use table::Table;
 
+// How many tries a completion may enter.
+const BUDGET: u32 = 4096;
+
 // Writes the reply to a look-up.
 fn put_found(reply: &mut [u8], at: usize, f: Result<Option<LidSymbol>, Refusal>) -> usize
     requires { at + reply_room ≤ length reply.old }
@@ -41,10 +44,8 @@ fn item_reply(item: RowItem) -> ItemReply
 {
     match item {
         RowItem::Name(c) => ItemReply::Name(c),
-        RowItem::Symbol(s) => match s {
-            ModSymbol::Module(name, path, loaded) => ItemReply::Module,
-            ModSymbol::Namespace(name, loaded) => ItemReply::Namespace,
-        },
+        RowItem::Symbol(ModSymbol::Module(..)) => ItemReply::Module,
+        RowItem::Symbol(ModSymbol::Namespace(..)) => ItemReply::Namespace,
     }
 }
 
@@ -54,17 +55,13 @@ fn put_row(row: Row, pane: &[u8], reply: &mut [u8], at: usize) -> usize
     requires row_in_bounds { at + row_room row ≤ length reply.old }
     ensures { Laid reply.old reply.new at result (row_text pane.now row) × (result ≤ at + row_room row) }
 {
-    let held = row.item;
-    let item = item_reply(held);
-    let note = row.annotation;
-    let candidate = row.candidate;
     script_replies::put_row(
         reply,
         at,
         row.matched,
-        item,
-        listing_row::text_of(pane, note),
-        listing_row::text_of(pane, candidate),
+        item_reply(row.item),
+        listing_row::text_of(pane, row.annotation),
+        listing_row::text_of(pane, row.candidate),
     )
 }
 
@@ -83,11 +80,9 @@ fn put_rows(
         (result ≤ at + rows_room (asked ask) (words_from flat.now 0 n)) }
 {
     let mut e = at;
-    let mut i = 0;
-    while i < n {
+    for i in 0..n {
         let r = listing_row::row_at(flat, i, ask);
         e = put_row(r, pane, reply, e);
-        i += 1;
     }
     e
 }
@@ -142,8 +137,8 @@ fn complete_line(
 {
     let table = start.table;
     let request = listing_ask::Request {
-        ask: ask,
-        budget: 4096,
+        ask,
+        budget: BUDGET,
     };
     let l = table.complete_sound(words, text, request, query, flat, pane);
     let c = l.answer;

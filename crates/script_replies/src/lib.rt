@@ -22,7 +22,7 @@ pub enum ItemReply {
     Namespace,
 }
 
-// Writes `text`.
+// Writes `text`. Replies are laid by it and not by `write!`, which may fail and promises nothing of the bytes around.
 fn put(out: &mut [u8], at: usize, text: &[u8]) -> usize
     requires { at + length text.now ≤ length out.old }
     ensures { Laid out.old out.new at result text.now }
@@ -122,7 +122,7 @@ fn put_texts(out: &mut [u8], at: usize, annotation: &[u8], candidate: &[u8]) -> 
     put(out, c, b"]\n")
 }
 
-// Writes a match length that is a word: 4294967295 for -1.
+// Writes a match length that is a word, as the C interface has it: 4294967295 for -1.
 fn put_word(out: &mut [u8], at: usize, word: u32) -> usize
     requires { at + 10 ≤ length out.old }
     ensures { Laid out.old out.new at result (signed (signed_word word)) × (result ≤ at + 10) }

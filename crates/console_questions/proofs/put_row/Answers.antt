@@ -45,7 +45,7 @@ put_row-requires c =
 
 pub returns : goal.returns
 returns c = (
-  subst (Laid _ _ _ _) (row_as c.args.pane.now c.args.row c.item_reply-item.ensures c.text_of.ensures c.text_of-2.ensures)
+  subst (Laid _ _ _ _) (row_as c.args.pane.now c.args.row c.item_reply.ensures c.text_of.ensures c.text_of-2.ensures)
       c.put_row.ensures.0,
   omega (arith, c.put_row.ensures.1, note-size c.requires.texts_in c.text_of.ensures, candidate-size c.requires.texts_in c.text_of-2.ensures),
 )
