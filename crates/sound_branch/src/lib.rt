@@ -14,6 +14,8 @@ use sound_field::{Ends, Side, Tested};
 use text_query::Rule;
 
 // A branch of the kind `k`, whose keys ascend. The notes have the branch with the least and the greatest key of each tree before it.
+// Inlined, since a Tested that is passed in memory costs a sixth of the test.
+#[inline(always)]
 pub fn branch_ok(t: Tested, k: u32, notes: &[Ends]) -> bool
     requires before { Before t.words.now t.text.now t.used t.link }
     requires tree_kind { TreeKind k }

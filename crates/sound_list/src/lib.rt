@@ -21,6 +21,8 @@ fn weight_ok(row: &[u32], weight: u64) -> bool
 }
 
 // A collection of the kind `k`, where its trees are of the kind `tree`, and the weight of its list.
+// Inlined, since a Tested that is passed in memory costs a sixth of the test.
+#[inline(always)]
 pub fn collection_ok(t: Tested, k: u32, tree: u32) -> bool
     requires before { Before t.words.now t.text.now t.used t.link }
     requires row_len { length t.row.now ≡ record_words }
