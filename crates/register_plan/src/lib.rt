@@ -170,6 +170,7 @@ fn plan_include(words: &[u32], text: &[u8], root: u32, host: &[u8], inc: u32, wa
 }
 
 // The plan of an open of a namespace. The included trie is `inc`.
+// Not one function with plan_include: beside the lists the depth differs, and so do the source's functions (IncludePlanned, OpenPlanned).
 fn plan_open(words: &[u32], text: &[u8], root: u32, host: &[u8], inc: u32, way: &mut Way) -> Plan
     requires at { At words.now text.now names trieˢ root × At words.now text.now names trieˢ inc }
     requires host_value { length (segments host.now) ≤ most_segments }
