@@ -84,7 +84,7 @@ fn plan_step(words: &[u32], text: &[u8], trie: u32, s: &[u8], way: &mut Way, ste
 {
     let t = memory_access::trie_of(words, trie);
     let p = find_list::names_place(words, text, t.namespaces, s);
-    let link = memory_access::trie_held(words, p.holder);
+    let link = memory_access::trie_held(words, p.holder.unwrap_or(0));
     way.note_step(
         steps,
         Step {
