@@ -3,6 +3,9 @@ use Prim.Native.Nat.{ℕ, ◌+◌, ◌≤◌, ◌<◌}
 use mathlib.Core.Path.{◌≡◌, refl, ◌∙◌}
 use mathlib.Core.List.{List}
 use mathlib.Core.Option.{none, some}
+use mathlib.Core.Bool.{true, false, true≢false, false≢true}
+use Rattle.std.specs.Prelude.{Option, Some, None, IfSome, is_some}
+use Rattle.std.specs.Option.{unwrap_or}
 use native.Mathlib.Omega.{arith}
 use lib.Dec.{eqb}
 use borrow.Author.Tests.{ne_eqb}
@@ -39,51 +42,63 @@ pub record FirstIn (ws txt : List ℕ) (w : Which) (ℓ : Level) (link : ℕ) (k
       ≡ or_else (pick (eqb r 0) none (some (held w ws txt ℓ r)))
       (names_find_exact (what w ws txt (rest_link (record_at ws link)) (list ℓ)) key)
 
-abbrev pub First : (ws txt : List ℕ) (link : ℕ) (key : Str) (r : ℕ) → Type 0
-First ws txt link key r = (w : Which) (ℓ : Level) → At ws txt w (list ℓ) link → FirstIn ws txt w ℓ link key r
+pub record First (ws txt : List ℕ) (link : ℕ) (key : Str) (r : Option ℕ) : Type 0 where
+  pub nonzero : IfSome r (λ branch. 0 < branch)
+  pub here : (w : Which) (ℓ : Level) → At ws txt w (list ℓ) link → FirstIn ws txt w ℓ link key (unwrap_or r 0)
 
-module _ {ws txt : List ℕ} {key : Str} {link own r : ℕ} (p : 0 < link) (q : own ≡ own_link (record_at ws link)) where
-  pub first_imported : sort_word (record_at ws link) ≡ 1 → Holder ws txt own key r → First ws txt link key r
+module _ {ws txt : List ℕ} {key : Str} {link own : ℕ} {r : Option ℕ} (n : IfSome r (λ branch. 0 < branch))
+    (p : 0 < link) (q : own ≡ own_link (record_at ws link)) where
+  pub first_imported : sort_word (record_at ws link) ≡ 1 → Holder ws txt own key (unwrap_or r 0)
+      → First ws txt link key r
   unfolding names_find_exact
-  first_imported e h w v t =
-      let g = h w v (rw q (imported_list t p e)) in
-      record {
-        found = link_later (omega (arith, q, ((collection_right t p).imported e).earlier)) g.link;
-        has_key = g.has_key;
-        says = rw (imported_reads t p e, ← q, g.says);
-      }
+  first_imported e h = record {
+    nonzero = n;
+    here = λ w v t.
+        let g = h w v (rw q (imported_list t p e)) in
+        record {
+          found = link_later (omega (arith, q, ((collection_right t p).imported e).earlier)) g.link;
+          has_key = g.has_key;
+          says = rw (imported_reads t p e, ← q, g.says);
+        };
+  }
 
-  pub first_names : (sort_word (record_at ws link) ≡ 1 → ⊥) → FindsBranch ws txt own key r → First ws txt link key r
+  pub first_names : (sort_word (record_at ws link) ≡ 1 → ⊥) → FindsBranch ws txt own key (unwrap_or r 0)
+      → First ws txt link key r
   unfolding names_find_exact
-  first_names n h w v t =
-      let e = sort_tree t p n in
-      let g = h w v (rw q (own_tree t p e)) in
-      record {
-        found = link_later (omega (arith, q, ((collection_right t p).own e).earlier)) g.link;
-        has_key = g.has_key;
-        says = rw (names_reads t p e, ← q, g.says);
-      }
+  first_names m h = record {
+    nonzero = n;
+    here = λ w v t.
+        let e = sort_tree t p m in
+        let g = h w v (rw q (own_tree t p e)) in
+        record {
+          found = link_later (omega (arith, q, ((collection_right t p).own e).earlier)) g.link;
+          has_key = g.has_key;
+          says = rw (names_reads t p e, ← q, g.says);
+        };
+  }
 
 pub find_all : {ws txt : List ℕ} {x : ℕ} {key : Str} → AnyList ws txt x → Find ws txt x key x
 find_all a = record { earlier = omega arith; lighter = omega arith; any = a; says = λ w v t. record { here = t; finds = refl } }
 
 module _ {ws txt : List ℕ} {x : ℕ} {key : Str} {link : ℕ} (g : Find ws txt x key link) where
-  pub find_here : {r : ℕ} → First ws txt link key r → 0 < r → Holder ws txt x key r
+  pub find_here : (r : Option ℕ) → First ws txt link key r → is_some r ≡ true → Holder ws txt x key (unwrap_or r 0)
   unfolding or_else
-  find_here {r} f p w v t =
+  find_here None f e w v t = absurd (false≢true e)
+  find_here (Some r) f e w v t =
       let s = g.says w v t in
-      let h = f w v s.here in
+      let h = f.here w v s.here in
+      let p : 0 < r = f.nonzero in
       record {
         link = link_later (omega (arith, g.earlier)) h.found;
         has_key = h.has_key;
         says = s.finds ∙ h.says ∙ rw (ne_eqb r 0 (λ z. omega arith));
       }
 
-  pub find_on : {r j : ℕ} → 0 < link → First ws txt link key r → r ≤ 0 → j ≡ rest_link (record_at ws link)
-      → Find ws txt x key j
+  pub find_on : (r : Option ℕ) {j : ℕ} → 0 < link → First ws txt link key r → is_some r ≡ false
+      → j ≡ rest_link (record_at ws link) → Find ws txt x key j
   unfolding or_else
-  find_on {r} {j} p f n q =
-      let z : r ≡ 0 = omega arith in
+  find_on (Some r) {j} p f e q = absurd (true≢false e)
+  find_on None {j} p f e q =
       let a = g.any in
       record {
         earlier = omega (arith, q, g.earlier, (collection_right a.list p).rest.earlier);
@@ -91,7 +106,7 @@ module _ {ws txt : List ℕ} {x : ℕ} {key : Str} {link : ℕ} (g : Find ws txt
         any = rw q (any_list (rest_list a.list p));
         says = λ w v t.
             let s = g.says w v t in
-            record { here = rw q (rest_list s.here p); finds = s.finds ∙ (f w v s.here).says ∙ rw (z, q) };
+            record { here = rw q (rest_list s.here p); finds = s.finds ∙ (f.here w v s.here).says ∙ rw q };
       }
 
   pub find_none : link ≤ 0 → Holder ws txt x key 0

@@ -1,5 +1,6 @@
 -- A list of collections of the record memory by its link, and what its readers answer.
-use Rattle.std.specs.Prelude.{ℕ, ◌+◌, ◌<◌, ◌≤◌, ◌≡◌, List, eqb}
+use Rattle.std.specs.Prelude.{ℕ, ◌+◌, ◌<◌, ◌≤◌, ◌≡◌, List, eqb, Option, IfSome}
+use Rattle.std.specs.Option.{unwrap_or}
 use Rattle.std.proofs.Math.Option.{none, some}
 use Rattle.source.specs.Text.{Str}
 use Rattle.source.specs.Types.{Level, Value, NameList, []ᴺ, Names, ImportedNames}
@@ -48,9 +49,10 @@ pub record InsertIn (ws txt : List ℕ) (w : Which) (ℓ : Level) (x : ℕ) (key
   pub builds : count ≡ insert_branches (first_tree (what w ws txt x (list ℓ))) key
   pub weighs : (a : Value (Item w) ℓ) → wt ≡ weight (names_insert (what w ws txt x (list ℓ)) key a)
 
--- The first holder, and the insertion for any table and level that the list is of.
-pub record NamesPlaced (ws txt : List ℕ) (x : ℕ) (key : Str) (holder count wt : ℕ) : Type 0 where
-  pub found : Holder ws txt x key holder
+-- The first holder, whose link is not 0, and the insertion for any table and level that the list is of.
+pub record NamesPlaced (ws txt : List ℕ) (x : ℕ) (key : Str) (holder : Option ℕ) (count wt : ℕ) : Type 0 where
+  pub nonzero : IfSome holder (λ link. 0 < link)
+  pub found : Holder ws txt x key (unwrap_or holder 0)
   pub small : count ≤ x + 1
   pub light : wt ≤ 97
   pub inserts : (w : Which) (ℓ : Level) → At ws txt w (list ℓ) x → InsertIn ws txt w ℓ x key count wt

@@ -2,7 +2,8 @@
 // A list is the link of its first collection; the same functions serve both tables and both levels.
 #![tactic(auto)]
 
-ghost use Rattle.std.specs.Prelude.{◌*◌, ◌≤◌, length};
+ghost use Rattle.std.specs.Prelude.{◌*◌, ◌≤◌, ◌<◌, length, IfSome};
+ghost use Rattle.std.specs.Option.{unwrap_or};
 ghost use Rattle.source.specs.Limits.{record_words};
 ghost use Rattle.find_list.specs.Names.{AnyList, Led, Holder, NamesPlaced};
 
@@ -33,10 +34,11 @@ pub fn lead_of(words: &[u32], list: u32) -> Lead
     }
 }
 
-// The branch of the first holder of a key, 0 for none. The calls of itself go no deeper than the weight of the list.
-pub fn names_find_exact(words: &[u32], text: &[u8], list: u32, key: &[u8]) -> u32
+// The branch of the first holder of a key. The calls of itself go no deeper than the weight of the list.
+pub fn names_find_exact(words: &[u32], text: &[u8], list: u32, key: &[u8]) -> Option<u32>
     requires { AnyList words.now text.now list }
-    ensures { Holder words.now text.now list key.now result }
+    ensures nonzero { IfSome result (λ link. 0 < link) }
+    ensures found { Holder words.now text.now list key.now (unwrap_or result 0) }
 {
     let mut link = list;
     while 0 < link {
@@ -46,18 +48,18 @@ pub fn names_find_exact(words: &[u32], text: &[u8], list: u32, key: &[u8]) -> u3
         } else {
             find_tree::btree_find_exact(words, text, own, key)
         };
-        if 0 < found {
+        if found.is_some() {
             return found;
         }
         link = memory_access::rest_of(words, link);
     }
-    0
+    None
 }
 
-// The branch of the first holder of a key, 0 for none; how many branches an insertion of the key builds; the weight of the list that it gives.
+// The branch of the first holder of a key; how many branches an insertion of the key builds; the weight of the list that it gives.
 #[derive(Clone, Copy)]
 pub struct NamesPlace {
-    pub holder: u32,
+    pub holder: Option<u32>,
     pub count: u32,
     pub weight: u32,
 }
@@ -69,11 +71,11 @@ pub fn names_place(words: &[u32], text: &[u8], list: u32, key: &[u8]) -> NamesPl
     let lead = lead_of(words, list);
     let place = find_tree::place_of(words, text, lead.tree, key);
     let mut holder = place.link;
-    if holder == 0 {
+    if holder.is_none() {
         holder = names_find_exact(words, text, lead.rest, key);
     }
     NamesPlace {
-        holder: holder,
+        holder,
         count: place.count,
         weight: memory_access::weight_of(words, lead.rest) + 1,
     }

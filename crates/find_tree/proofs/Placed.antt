@@ -1,4 +1,5 @@
 -- A search that goes down from the root: what the tree at hand says is what the whole says.
+use Rattle.std.specs.Prelude.{Some, None}
 use Prim.Native.Nat.{Ordering}
 use Prim.Native.Nat.{ℕ, ◌+◌, ◌≤◌, ◌<◌}
 use mathlib.Core.Path.{◌≡◌, refl, sym, ◌∙◌, subst}
@@ -72,9 +73,11 @@ module _ {ws txt : List ℕ} {root : ℕ} {key : Str} {link count : ℕ} (g : Se
         (search_on (right_link (record_at ws link)) (sides_earlier g.any p).1 (any_right g.any p)
         (λ w v t. (right_tree t p, rw (branch_reads t p, btree_find_exact, ← e), rw (branch_reads t p, insert_branches, ← e) (sym (add-one _)))))
 
-    pub search_here : Ordering.eq ≡ string_compare key (key_at ws txt link) → Placed ws txt root key link count
+    pub search_here : Ordering.eq ≡ string_compare key (key_at ws txt link)
+        → Placed ws txt root key (record { link = Some link; count = count })
     unfolding btree_find_exact insert_branches
     search_here e = record {
+      nonzero = p;
       found = λ w ℓ t.
           let s = g.says w ℓ t in
           record {
@@ -91,11 +94,12 @@ module _ {ws txt : List ℕ} {root : ℕ} {key : Str} {link count : ℕ} (g : Se
       };
     }
 
-  pub search_none : link ≤ 0 → Placed ws txt root key 0 count
+  pub search_none : link ≤ 0 → Placed ws txt root key (record { link = None; count = count })
   unfolding btree_find_exact insert_branches
   search_none h =
       let z : link ≡ 0 = omega arith in
       record {
+        nonzero = tt;
         found = λ w ℓ t.
             let s = g.says w ℓ t in
             record {

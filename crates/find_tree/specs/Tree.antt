@@ -1,5 +1,6 @@
 -- A tree of the record memory by the link of its root, and what the searches on its keys answer.
-use Rattle.std.specs.Prelude.{ℕ, ◌+◌, ◌<◌, ◌≤◌, ◌≡◌, List, eqb}
+use Rattle.std.specs.Prelude.{ℕ, ◌+◌, ◌<◌, ◌≤◌, ◌≡◌, List, eqb, IfSome}
+use Rattle.std.specs.Option.{unwrap_or}
 use Rattle.std.proofs.Math.Option.{none, some}
 use Rattle.source.specs.Text.{Str}
 use Rattle.source.specs.Types.{Level, Value}
@@ -7,6 +8,7 @@ use Rattle.source.specs.Trees.{btree_find_exact}
 use Rattle.source.specs.Plans.{insert_branches}
 use Rattle.memory.specs.Layout.{key_at, record_at, pick, Which, Item, tree, kind, value, what}
 use Rattle.memory.specs.Sound.{LinkOk, At}
+use Rattle.find_tree.specs.declared.Place.{Place}
 
 -- What that key stands for.
 unfoldable pub held : (w : Which) → List ℕ → List ℕ → (ℓ : Level) → ℕ → Value (Item w) ℓ
@@ -34,7 +36,8 @@ pub record Builds (ws txt : List ℕ) (root : ℕ) (key : Str) (r : ℕ) : Type 
   pub small : r ≤ root + 1
   pub says : (w : Which) (ℓ : Level) → At ws txt w (tree ℓ) root → r ≡ insert_branches (what w ws txt root (tree ℓ)) key
 
--- Both.
-pub record Placed (ws txt : List ℕ) (root : ℕ) (key : Str) (link count : ℕ) : Type 0 where
-  pub found : FindsBranch ws txt root key link
-  pub builds : Builds ws txt root key count
+-- Both, of the place of a key. A link that it has is not 0.
+pub record Placed (ws txt : List ℕ) (root : ℕ) (key : Str) (p : Place) : Type 0 where
+  pub nonzero : IfSome p.link (λ link. 0 < link)
+  pub found : FindsBranch ws txt root key (unwrap_or p.link 0)
+  pub builds : Builds ws txt root key p.count

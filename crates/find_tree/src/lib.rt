@@ -2,7 +2,8 @@
 // A tree is the link of its root; the same functions serve both tables and both levels.
 #![tactic(auto)]
 
-ghost use Rattle.std.specs.Prelude.{◌≡◌, ◌<◌};
+ghost use Rattle.std.specs.Prelude.{◌≡◌, ◌<◌, IfSome};
+ghost use Rattle.std.specs.Option.{unwrap_or};
 ghost use Rattle.source.specs.Text.{string_compare, starts_with};
 ghost use Rattle.memory.specs.Layout.{key_at};
 ghost use Rattle.text.specs.Text.{ordering};
@@ -28,17 +29,17 @@ pub fn key_begins(words: &[u32], text: &[u8], link: u32, prefix: &[u8]) -> bool
     text::starts_with(memory_access::key_of(words, text, link), prefix)
 }
 
-// Where a key stands in a tree: its branch, 0 for none, and how many branches an insertion builds.
+// Where a key stands in a tree: its branch, if there is one, and how many branches an insertion builds.
 #[derive(Clone, Copy)]
 pub struct Place {
-    pub link: u32,
+    pub link: Option<u32>,
     pub count: u32,
 }
 
 // The place of a key.
 pub fn place_of(words: &[u32], text: &[u8], root: u32, key: &[u8]) -> Place
     requires { AnyTree words.now text.now root }
-    ensures { Placed words.now text.now root key.now result.link result.count }
+    ensures { Placed words.now text.now root key.now result }
 {
     let mut link = root;
     let mut count = 1;
@@ -50,8 +51,8 @@ pub fn place_of(words: &[u32], text: &[u8], root: u32, key: &[u8]) -> Place
             }
             Ordering::Equal => {
                 return Place {
-                    link: link,
-                    count: count,
+                    link: Some(link),
+                    count,
                 };
             }
             Ordering::Greater => {
@@ -60,16 +61,14 @@ pub fn place_of(words: &[u32], text: &[u8], root: u32, key: &[u8]) -> Place
             }
         }
     }
-    Place {
-        link: 0,
-        count: count,
-    }
+    Place { link: None, count }
 }
 
-// The branch that has the key, 0 for none.
-pub fn btree_find_exact(words: &[u32], text: &[u8], root: u32, key: &[u8]) -> u32
+// The branch that has the key.
+pub fn btree_find_exact(words: &[u32], text: &[u8], root: u32, key: &[u8]) -> Option<u32>
     requires { AnyTree words.now text.now root }
-    ensures { FindsBranch words.now text.now root key.now result }
+    ensures nonzero { IfSome result (λ link. 0 < link) }
+    ensures found { FindsBranch words.now text.now root key.now (unwrap_or result 0) }
 {
     place_of(words, text, root, key).link
 }

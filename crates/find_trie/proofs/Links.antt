@@ -1,5 +1,7 @@
 -- The links of a trie: its two lists, and the trie that a list of namespaces holds at a name.
-use Prim.Native.Nat.{ℕ, ◌+◌, ◌*◌, ◌≤◌}
+use Rattle.std.specs.Prelude.{Option, Some, None, IfSome}
+use Rattle.std.specs.Option.{unwrap_or}
+use Prim.Native.Nat.{ℕ, ◌+◌, ◌*◌, ◌≤◌, ◌<◌}
 use mathlib.Core.Path.{◌≡◌, ◌∙◌}
 use mathlib.Core.List.{List}
 use native.Mathlib.Omega.{arith}
@@ -36,6 +38,13 @@ any_bindings t q = record { which = _; level = bind; list = bindings_at t q }
 pub any_namespaces : {ws txt : List ℕ} {w : Which} {x : ℕ} {p : Trie} → At ws txt w trieˢ x → ReadTrie ws x p
     → AnyList ws txt p.namespaces
 any_namespaces t q = record { which = _; level = ns; list = namespaces_at t q }
+
+-- A holder that there is has a record.
+pub holder_some : {ws txt : List ℕ} {x : ℕ} {s : Str} → AnyList ws txt x → (h : Option ℕ)
+    → IfSome h (λ branch. 0 < branch) → Holder ws txt x s (unwrap_or h 0)
+    → IfSome h (λ branch. (0 < branch) × (branch * 12 ≤ length ws))
+holder_some a None n f = tt
+holder_some a (Some branch) n f = (n, link_fits a.list.sound (link_later (omega (arith, a.list.link.earlier)) (f a.which a.level a.list).link))
 
 module _ {ws txt : List ℕ} {x : ℕ} {s : Str} {r : ℕ} where
   pub holder_fits : AnyList ws txt x → Holder ws txt x s r → r * 12 ≤ length ws

@@ -2,7 +2,8 @@
 // A trie is the link of its record, 0 for the empty one.
 #![tactic(auto)]
 
-ghost use Rattle.std.specs.Prelude.{◌≡◌, true, ◌*◌, ◌≤◌, length};
+ghost use Rattle.std.specs.Prelude.{◌≡◌, true, ◌*◌, ◌<◌, ◌≤◌, length, IfSome};
+ghost use Rattle.std.specs.Option.{unwrap_or};
 ghost use Rattle.source.specs.Limits.{record_words};
 ghost use Rattle.source.specs.Text.{segments, ends_in_dot};
 ghost use Rattle.find_list.specs.Names.{AnyList};
@@ -16,7 +17,7 @@ fn scope_of(words: &[u32], text: &[u8], namespaces: u32, s: &[u8]) -> u32
     ensures { Scope words.now text.now namespaces s.now result }
 {
     let holder = find_list::names_find_exact(words, text, namespaces, s);
-    memory_access::trie_held(words, holder)
+    memory_access::trie_held(words, holder.unwrap_or(0))
 }
 
 // The source's trie_descend_exact, 0 for the empty trie where there is none.
@@ -44,36 +45,36 @@ pub fn trie_find_exact(words: &[u32], text: &[u8], root: u32, query: &[u8]) -> u
     while let Some(segment) = left.next() {
         let t = memory_access::trie_of(words, link);
         if left.rest.is_empty() {
-            return find_list::names_find_exact(words, text, t.bindings, segment);
+            return find_list::names_find_exact(words, text, t.bindings, segment).unwrap_or(0);
         }
         link = scope_of(words, text, t.namespaces, segment);
     }
     0
 }
 
-// Whether ins_ns inserts, where `holder` is the branch that has the name, 0 for none.
-pub fn ns_inserts(words: &[u32], holder: u32, loaded: bool) -> bool
-    requires { holder * record_words ≤ length words.now }
-    ensures { NsInserts words.now holder loaded result }
+// Whether ins_ns inserts, where `holder` is the branch that has the name.
+pub fn ns_inserts(words: &[u32], holder: Option<u32>, loaded: bool) -> bool
+    requires { IfSome holder (λ branch. (0 < branch) × (branch * record_words ≤ length words.now)) }
+    ensures { NsInserts words.now (unwrap_or holder 0) loaded result }
 {
-    if holder == 0 {
+    let Some(branch) = holder else {
         return true;
-    }
-    match memory_access::symbol_of(words, holder) {
+    };
+    match memory_access::symbol_of(words, branch) {
         ModSymbol::Module(_, _, _) => false,
         ModSymbol::Namespace(_, seen) => !seen & loaded,
     }
 }
 
-// Whether `holder`, 0 for none, is the branch of a loaded Module.
-pub fn loaded_module(words: &[u32], holder: u32) -> bool
-    requires { holder * record_words ≤ length words.now }
-    ensures { LoadedModule words.now holder result }
+// Whether `holder` is the branch of a loaded Module.
+pub fn loaded_module(words: &[u32], holder: Option<u32>) -> bool
+    requires { IfSome holder (λ branch. (0 < branch) × (branch * record_words ≤ length words.now)) }
+    ensures { LoadedModule words.now (unwrap_or holder 0) result }
 {
-    if holder == 0 {
+    let Some(branch) = holder else {
         return false;
-    }
-    match memory_access::symbol_of(words, holder) {
+    };
+    match memory_access::symbol_of(words, branch) {
         ModSymbol::Module(_, _, loaded) => loaded,
         ModSymbol::Namespace(_, _) => false,
     }

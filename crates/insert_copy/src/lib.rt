@@ -2,7 +2,7 @@
 // The way down is noted in the records that they take.
 #![tactic(auto)]
 
-ghost use Rattle.std.specs.Prelude.{◌≡◌, ◌*◌, ◌≤◌, ◌<◌, max, length};
+ghost use Rattle.std.specs.Prelude.{◌≡◌, ◌*◌, ◌≤◌, ◌<◌, length};
 ghost use Rattle.source.specs.Limits.{record_words};
 ghost use Rattle.memory.specs.Layout.{kind_word, trie_link};
 ghost use Rattle.insert_copy.specs.Copies.{of_namespaces, branch_depth, DepthOk, with_sides, raised_row, RaiseOk, with_key, lowest_row, LowestOk};

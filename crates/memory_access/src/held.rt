@@ -1,4 +1,4 @@
-// One word of a record, by what it holds.
+// One word of a record, by what it holds: word_of and stored under the word's name, with the definition that clauses cite.
 ghost use Rattle.std.specs.Prelude.{◌≡◌, ◌*◌, ◌≤◌, ◌<◌, length};
 ghost use Rattle.source.specs.Limits.{record_words};
 ghost use Rattle.memory.specs.Layout.{record_at, text_len, left_link, right_link, trie_link, own_link, rest_link, sort_word, note_link, note_side};

@@ -1,4 +1,4 @@
-// The words of new records, as crates/memory/specs/Made.antt has them.
+// The words of new records, as crates/memory/specs/Made.antt has them: all twelve, in the order of the memory format.
 ghost use Rattle.std.specs.Prelude.{◌≡◌, ◌≤◌, length};
 ghost use Rattle.source.specs.Limits.{record_words};
 ghost use Rattle.memory.specs.Made.{binding_row, symbol_row, namespace_row, sided_row, collection_row, trie_row};

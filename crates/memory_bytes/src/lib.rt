@@ -1,7 +1,7 @@
 // Words spelled by bytes, four to a word, lowest first.
 #![tactic(auto)]
 
-ghost use Rattle.std.specs.Prelude.{◌≡◌, ◌+◌, ◌*◌, ◌≤◌, length};
+ghost use Rattle.std.specs.Prelude.{◌≡◌, ◌+◌, ◌*◌, ◌%◌, ◌≤◌, length};
 ghost use Rattle.memory_bytes.specs.Bytes.{word_at, Put, Stored};
 
 // Word `k` of the bytes.
@@ -14,17 +14,23 @@ pub fn word_at(bytes: &[u8], k: usize) -> u32
     u32::from_le_bytes([bytes[at], bytes[at + 1], bytes[at + 2], bytes[at + 3]])
 }
 
-// Writes word `k`.
+// The lowest byte of a word.
+fn low(x: u32) -> u8
+    ensures { result ≡ x % 256 }
+{
+    (x & 255) as u8
+}
+
+// Writes word `k`, by shifts: std's to_le_bytes divides, and no registration does.
 pub fn put_word(bytes: &mut [u8], k: usize, word: u32)
     requires { k * 4 + 4 ≤ length bytes.old }
     ensures { Put k word bytes.old bytes.new }
 {
     let at = k * 4;
-    let [a, b, c, d] = word.to_le_bytes();
-    bytes[at] = a;
-    bytes[at + 1] = b;
-    bytes[at + 2] = c;
-    bytes[at + 3] = d;
+    bytes[at] = low(word);
+    bytes[at + 1] = low(word >> 8);
+    bytes[at + 2] = low(word >> 16);
+    bytes[at + 3] = low(word >> 24);
 }
 
 // Copies the words from `from` up to `to` out.

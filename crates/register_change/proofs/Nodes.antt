@@ -1,4 +1,6 @@
 -- mut_node of each change: what its writers ask, and what they build.
+use Rattle.std.specs.Prelude.{Option}
+use Rattle.std.specs.Option.{unwrap_or}
 use Prim.Native.Nat.{ℕ, ◌+◌, ◌-◌, ◌≤◌, ◌<◌}
 use mathlib.Core.Path.{◌≡◌, refl, ◌∙◌}
 use mathlib.Core.Bool.{Bool, true, false, cond, ◌&&◌, ◌||◌}
@@ -57,7 +59,7 @@ module _ (ch : Change) where
   kinds_module e = rw e (omega arith, λ s. refl)
 
 -- ---- ins
-pub placed_part : {ws txt : List ℕ} {x holder count wt : ℕ} (start m : ℕ)
+pub placed_part : {ws txt : List ℕ} {x count wt : ℕ} {holder : Option ℕ} (start m : ℕ)
     → NamesPlaced ws txt x (take (start + m - start) (drop start txt)) holder count wt
     → NamesPlaced ws txt x (span txt start m) holder count wt
 unfolding span
@@ -132,8 +134,8 @@ module _ {ws txt : List ℕ} {n used x at len : ℕ} {d : Descent} {loaded : Boo
   pub ins_key : TextOk IsKey txt used at len
   ins_key = key_in i.place i.cut
 
-  module _ {holder count wt : ℕ} {b : Bool} (z : NamesPlaced ws txt x (span txt at len) holder count wt)
-      (f : NsInserts ws holder loaded b) where
+  module _ {count wt : ℕ} {holder : Option ℕ} {b : Bool} (z : NamesPlaced ws txt x (span txt at len) holder count wt)
+      (f : NsInserts ws (unwrap_or holder 0) loaded b) where
     abbrev ins_last : Bool
     ins_last = eqb (at + len + 1) d.end
 
@@ -160,7 +162,7 @@ module _ {ws txt : List ℕ} {n used x at len : ℕ} {d : Descent} {loaded : Boo
         (rw (z.found modules bind ins_list).says (f.says txt)) k
         ∙ rw (symbol_reads txt at len d.from d.change.text ins_last (ins_last && m || loaded), full_name_is i.place i.cut i.sound.text_fits)
 
-    module _ (g : ins_last || b ≡ true) {m : Bool} (l : LoadedModule ws holder m) where
+    module _ (g : ins_last || b ≡ true) {m : Bool} (l : LoadedModule ws (unwrap_or holder 0) m) where
       ins_is_row : bindings_at txt at len d (form.Module loaded) (what modules ws txt x (list bind))
           ≡ names_insertᶜ (what modules ws txt x (list bind)) (span txt at len) (item (item_of modules txt (ins_row m)))
       ins_is_row = ins_of m (rw (z.found modules bind ins_list).says (l.says txt)) ∙ rw g

@@ -85,7 +85,7 @@ fn include_leaf(words: &mut [u32], text: &[u8], records: u32, trie: u32, change:
     insert_record::put_trie(words, b, TRIE_KIND, b, t.namespaces)
 }
 
-// trie_open_namespace's.
+// trie_open_namespace's. One function with include_leaf would choose both lists, the kind and the place in the trie by a flag.
 fn open_leaf(words: &mut [u32], text: &[u8], records: u32, trie: u32, change: Change) -> u32
     requires { Some (λ used. Leaf words.old text.now records used trie (with_kind Open change)) }
     ensures { LeafBuilt words.old words.new text.now records trie (with_kind Open change) result

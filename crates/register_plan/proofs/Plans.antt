@@ -1,4 +1,6 @@
 -- Planning: what each step of a path adds, and the plan of each call from the path to its host.
+use Rattle.std.specs.Prelude.{Option}
+use Rattle.std.specs.Option.{unwrap_or}
 use Prim.Native.Nat.{ℕ, suc, ◌+◌, ◌≤◌, ◌<◌, min, max}
 use mathlib.Core.Path.{◌≡◌, refl, sym, ap, ◌∙◌}
 use mathlib.Core.Bool.{Bool, true, false, ◌||◌, or-false}
@@ -62,12 +64,13 @@ module _ {ws txt : List ℕ} {w : Which} {ℓ : Level} {x : ℕ} {key : Str} {co
   unfolding inserted_records
   placed_records = omega (arith, i.builds)
 
-pub placed_small : {ws txt : List ℕ} {x : ℕ} {key : Str} {holder count wt : ℕ} → AnyList ws txt x
+pub placed_small : {ws txt : List ℕ} {x : ℕ} {key : Str} {count wt : ℕ} {holder : Option ℕ} → AnyList ws txt x
     → NamesPlaced ws txt x key holder count wt → count ≤ 65537
 placed_small a z = omega (arith, z.small, a.list.link.earlier, a.list.sound.few)
 
 -- The count of a place in a list of a trie, by the trie.
-module _ {ws txt : List ℕ} {w : Which} {x : ℕ} {p : M.Trie} {key : Str} {holder count wt : ℕ} (t : At ws txt w trieˢ x)
+module _ {ws txt : List ℕ} {w : Which} {x : ℕ} {p : M.Trie} {key : Str} {count wt : ℕ} {holder : Option ℕ}
+    (t : At ws txt w trieˢ x)
     (q : ReadTrie ws x p) where
   pub bindings_builds : NamesPlaced ws txt p.bindings key holder count wt
       → count ≡ insert_branches (first_tree (bindings (what w ws txt x trieˢ))) key
@@ -90,8 +93,8 @@ none_light ws = record { fits = omega arith; light = rw (stored_none ws 10) (ome
 
 -- ---- a path
 pub path_stepped : {ws txt : List ℕ} {w : Which} {x : ℕ} {p : M.Trie} {s : Str} {way way' : Way}
-    {steps holder count wt y : ℕ} → At ws txt w trieˢ x → ReadTrie ws x p
-    → NamesPlaced ws txt p.namespaces s holder count wt → y ≡ trie_in ws holder
+    {steps count wt y : ℕ} {holder : Option ℕ} → At ws txt w trieˢ x → ReadTrie ws x p
+    → NamesPlaced ws txt p.namespaces s holder count wt → y ≡ trie_in ws (unwrap_or holder 0)
     → NotesStep way way' steps (record { below = y; count = count }) → StepIn ws txt w x s way way' steps y (insertion count wt)
 path_stepped {ws} {txt} {w} {x} {s = s} t q z e n =
     let a = namespaces_at t q in
@@ -176,7 +179,7 @@ module _ {ws txt : List ℕ} {root link steps : ℕ} {cost : Cost} (host : Str)
   number_is = omega (arith, g.gives.number)
 
   module _ {p : M.Trie} (q : ReadTrie ws link p) (tbl : Table) (e : tbl.tbl_lids ≡ what names ws txt root trieˢ) where
-    pub name_planned : {id : Str} {holder count wt : ℕ} (c : LidSymbol)
+    pub name_planned : {id : Str} {count wt : ℕ} {holder : Option ℕ} (c : LidSymbol)
         → NamesPlaced ws txt p.bindings id holder count wt
         → Planned tbl (name host id c) (record { cost = both cost (insertion count wt); deep = ltb 16 steps })
     unfolding plan_records plan_crowded plan_weight plan_depth name_records name_weight
@@ -221,7 +224,8 @@ module _ {ws txt : List ℕ} {root link steps : ℕ} {cost : Cost} (host : Str)
         deep = rw (e, number_is, ← f, (lists_seen t q').deep);
       }
 
-      pub alias_planned : {key : Str} {holder count wt : ℕ} → NamesPlaced ws txt p.namespaces key holder count wt
+      pub alias_planned : {key : Str} {count wt : ℕ} {holder : Option ℕ}
+          → NamesPlaced ws txt p.namespaces key holder count wt
           → Planned tbl (alias key host query)
           (record { cost = both cost (both (insertion count wt) (import ws p'.bindings 0)); deep = ltb 16 (steps + 1) })
       unfolding plan_records plan_crowded plan_weight plan_depth alias_records alias_weight
@@ -245,9 +249,9 @@ module _ {ws txt : List ℕ} {root link steps : ℕ} {cost : Cost} (host : Str)
           }
 
 -- ---- module paths
-module _ {ws txt : List ℕ} {x : ℕ} {p : M.Trie} {s : Str} {holder count wt : ℕ} {last loaded b : Bool}
+module _ {ws txt : List ℕ} {x : ℕ} {p : M.Trie} {s : Str} {count wt : ℕ} {holder : Option ℕ} {last loaded b : Bool}
     (t : At ws txt modules trieˢ x) (q : ReadTrie ws x p)
-    (z : NamesPlaced ws txt p.bindings s holder count wt) (n : NsInserts ws holder loaded b) where
+    (z : NamesPlaced ws txt p.bindings s holder count wt) (n : NsInserts ws (unwrap_or holder 0) loaded b) where
   ins_inserts_is : (r : Query) → last ≡ is_empty r
       → ins_inserts loaded (bindings (what modules ws txt x trieˢ)) s r ≡ last || b
   unfolding ins_inserts is_empty

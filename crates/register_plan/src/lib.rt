@@ -84,7 +84,7 @@ fn plan_step(words: &[u32], text: &[u8], trie: u32, s: &[u8], way: &mut Way, ste
 {
     let t = memory_access::trie_of(words, trie);
     let p = find_list::names_place(words, text, t.namespaces, s);
-    let link = memory_access::trie_held(words, p.holder);
+    let link = memory_access::trie_held(words, p.holder.unwrap_or(0));
     way.note_step(
         steps,
         Step {
@@ -170,6 +170,7 @@ fn plan_include(words: &[u32], text: &[u8], root: u32, host: &[u8], inc: u32, wa
 }
 
 // The plan of an open of a namespace. The included trie is `inc`.
+// Not one function with plan_include: beside the lists the depth differs, and so do the source's functions (IncludePlanned, OpenPlanned).
 fn plan_open(words: &[u32], text: &[u8], root: u32, host: &[u8], inc: u32, way: &mut Way) -> Plan
     requires at { At words.now text.now names trieˢ root × At words.now text.now names trieˢ inc }
     requires host_value { length (segments host.now) ≤ most_segments }

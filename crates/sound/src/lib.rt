@@ -1,24 +1,31 @@
 // Is the lent memory a sound table? One pass over the used records, each tested by what the records before it store.
 #![tactic(auto)]
 
-ghost use Rattle.std.specs.Prelude.{◌+◌};
+ghost use Rattle.std.specs.Prelude.{◌+◌, ◌≤◌};
 ghost use Rattle.memory.specs.Sound.{Says};
 ghost use Rattle.memory_table.specs.Table.{Sound};
-ghost use Rattle.sound.specs.Notes.{CanNote, NotesOn};
+ghost use Rattle.sound_field.specs.Fields.{CanNote};
+ghost use Rattle.sound.specs.Notes.{NotesOn};
 
 use memory_table::Header;
+use sound_field::{Ends, Side, Tested};
 
-// Notes the record of `link`, which is right.
-fn note(words: &[u32], link: u32, least: &mut [u32], greatest: &mut [u32])
-    requires { CanNote words.now link least.old greatest.old }
-    ensures { NotesOn words.now (link + 1) least.old greatest.old least.new greatest.new }
+// Notes the record of `link`, which is right, where the notes reach it.
+fn note(words: &[u32], link: u32, notes: &mut [Ends])
+    requires { CanNote words.now link notes.old }
+    ensures { NotesOn words.now (link + 1) notes.old notes.new }
 {
-    sound_field::note(words, link, memory::LEFT, least);
-    sound_field::note(words, link, memory::RIGHT, greatest);
+    let at = link as usize;
+    if at < notes.len() {
+        notes[at] = Ends {
+            least: sound_field::next_end(words, link, Side::Left, notes),
+            greatest: sound_field::next_end(words, link, Side::Right, notes),
+        };
+    }
 }
 
 // One pass over the used records, with notes for as many as are lent.
-fn pass(words: &[u32], text: &[u8], header: Header, least: &mut [u32], greatest: &mut [u32]) -> bool
+fn pass(words: &[u32], text: &[u8], header: Header, notes: &mut [Ends]) -> bool
     ensures { Says result (Sound words.now text.now header) }
 {
     let records = header.records;
@@ -41,75 +48,62 @@ fn pass(words: &[u32], text: &[u8], header: Header, least: &mut [u32], greatest:
     if !sound_field::link_ok(words, records + 1, header.modules, memory::MODULE_TRIE_KIND) {
         return false;
     }
-    let mut link = 1;
-    while link <= records {
+    for link in 1..=records {
         let at = (link as usize - 1) * memory::ROW;
-        if !sound_record::record_ok(
-            words,
-            text,
-            used,
-            link,
-            &words[at..at + memory::ROW],
-            least,
-            greatest,
-        ) {
+        let tested = Tested {
+            words: words,
+            text: text,
+            used: used,
+            link: link,
+            row: &words[at..at + memory::ROW],
+        };
+        if !sound_record::record_ok(tested, notes) {
             return false;
         }
-        note(words, link, least, greatest);
-        link += 1;
+        note(words, link, notes);
     }
     true
 }
 
-// Records that the notes of a test reach. With more than these a way along a side goes on until a noted record, so that up to here the test is linear.
-const SMALL: usize = 1024;
+// How many notes a test has: one for each record that they reach, and one for the link 0. With more records a way along a side goes on until a noted one,
+// so that up to there the test is linear.
+const SMALL: usize = 1024 + 1;
 
-const MIDDLE: usize = 8192;
+const MIDDLE: usize = 8192 + 1;
 
-const LARGE: usize = memory::CAPACITY as usize;
+const LARGE: usize = memory::CAPACITY as usize + 1;
+
+// The test with `N` notes, which take 8 bytes of stack each: in a frame of its own, so that only tables of its size pay for it.
+#[inline(never)]
+fn with_notes<const N: usize>(words: &[u32], text: &[u8], header: Header) -> bool
+    requires { N ≤ 65537 }
+    ensures { Says result (Sound words.now text.now header) }
+{
+    let mut notes = [Ends {
+        least: 0,
+        greatest: 0,
+    }; N];
+    pass(words, text, header, &mut notes)
+}
 
 // Is the lent memory a sound table, with this header? Its notes take 8 KB of stack.
 pub fn sound_small(words: &[u32], text: &[u8], header: Header) -> bool
     ensures { Says result (Sound words.now text.now header) }
 {
-    let mut least = [0; SMALL + 1];
-    let mut greatest = [0; SMALL + 1];
-    pass(words, text, header, &mut least, &mut greatest)
+    with_notes::<SMALL>(words, text, header)
 }
 
-// The same: 64 KB.
-fn sound_middle(words: &[u32], text: &[u8], header: Header) -> bool
-    ensures { Says result (Sound words.now text.now header) }
-{
-    let mut least = [0; MIDDLE + 1];
-    let mut greatest = [0; MIDDLE + 1];
-    pass(words, text, header, &mut least, &mut greatest)
-}
-
-// The same: 512 KB, a half for each side. Given no notes for the least, it lends its own to itself.
-// A function that calls itself has a frame of its own, so that only tables of its size pay for its stack.
-fn sound_large(words: &[u32], text: &[u8], header: Header, least: &mut [u32]) -> bool
-    ensures { Says result (Sound words.now text.now header) }
-{
-    let mut notes = [0; LARGE + 1];
-    if least.len() == 0 {
-        return sound_large(words, text, header, &mut notes);
-    }
-    pass(words, text, header, least, &mut notes)
-}
-
-// The same, linear in the used records. It takes 66 KB of stack, and 591 KB where more than `MIDDLE` records are used.
+// The same, linear in the used records. Its notes take 8 KB of stack, 64 KB where more than 1,024 records are used, and 512 KB where more than 8,192 are.
 pub fn sound(words: &[u32], text: &[u8], header: Header) -> bool
     ensures { Says result (Sound words.now text.now header) }
 {
     let records = header.records as usize;
     // More than may be used are no sound table, which the small test says at once.
-    if (records <= SMALL) | (LARGE < records) {
+    if (records < SMALL) | (LARGE <= records) {
         return sound_small(words, text, header);
     }
-    if records <= MIDDLE {
-        return sound_middle(words, text, header);
+    if records < MIDDLE {
+        return with_notes::<MIDDLE>(words, text, header);
     }
-    let mut none = [0; 0];
-    sound_large(words, text, header, &mut none)
+    with_notes::<LARGE>(words, text, header)
 }

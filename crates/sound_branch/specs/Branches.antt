@@ -4,13 +4,7 @@ use Rattle.source.specs.Types.{Level, ns}
 use Rattle.source.specs.Terms.{depth_tree}
 use Rattle.source.specs.Rules.{Ordered}
 use Rattle.memory.specs.Layout.{trie_link, depth_word, Which, tree, trieˢ, kind, row, what}
-use Rattle.sound_field.specs.Fields.{WaysNoted}
 use Rattle.memory.specs.Sound.{Says, LinkOk, BranchOk}
-
--- The notes of the records before link l: the ends of their ways to the left and to the right.
-pub record Notes (ws : List ℕ) (l : ℕ) (least greatest : List ℕ) : Type 0 where
-  pub least_noted : WaysNoted ws 3 l least
-  pub greatest_noted : WaysNoted ws 4 l greatest
 
 -- What the answer b says, of each table and level that the kinds are of.
 module _ (ws txt : List ℕ) (used l : ℕ) (r : List ℕ) where

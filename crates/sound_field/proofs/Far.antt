@@ -7,7 +7,7 @@ use native.Mathlib.Omega.{arith}
 use lib.ListN.{length}
 use Rattle.source.specs.Text.{Str}
 use Rattle.source.specs.Types.{Level, Tree, StrEmpty, StrBranch}
-use Rattle.source.specs.Rules.{◌<ˢ◌, AllKeys, Ordered}
+use Rattle.source.specs.Rules.{AllKeys, Ordered}
 use Rattle.source.proofs.Order.{<ˢ_trans}
 use Rattle.source.proofs.Trees.{AllKeys-map}
 use Rattle.memory.specs.Layout.{record_at, word, span, key_of, Which, Item, tree, kind, row, what, kind_word, text_start, text_len, left_link, right_link}
@@ -15,30 +15,20 @@ use Rattle.memory.specs.Sound.{Says, LinkOk, RecordOk}
 use Rattle.memory.proofs.Says.{says_iff}
 use Rattle.memory.proofs.What.{what_none}
 use Rattle.memory.proofs.RecordOk.{zero_some, record_what, branch_at, ordered_at, links_earlier}
-use Rattle.sound_field.specs.Fields.{Before, Subtree, Far, here, on}
+use Rattle.sound_field.specs.Fields.{link_word, other, On, Before, Subtree, Far, here, on}
+use Rattle.sound_field.specs.declared.Side.{Side}
+use Rattle.sound_field.specs.declared.Side.TheVariants.{Left, Right}
 
--- The side of a key that a tree stands on: its keys are before the key, or after it.
-pub data Side : Type 0 where
-  left right : Side
-
--- x is on the side of y.
-abbrev pub On : Side → Str → Str → Type 0
-On left x y = x <ˢ y
-On right x y = y <ˢ x
-
--- The word of a tree's links that lead to a key on its other side.
+-- The word of a tree's links that lead to a key on its other side, and of those that lead away from it.
 abbrev pub toward : Side → ℕ
-toward left = 4
-toward right = 3
+toward side = link_word (other side)
 
--- The word of the links that lead away from it.
 abbrev pub away : Side → ℕ
-away left = 3
-away right = 4
+away side = link_word side
 
 on_trans : (side : Side) (x y z : Str) → On side x y → On side y z → On side x z
-on_trans left x y z h k = <ˢ_trans x y z h k
-on_trans right x y z h k = <ˢ_trans z y x k h
+on_trans Left x y z h k = <ˢ_trans x y z h k
+on_trans Right x y z h k = <ˢ_trans z y x k h
 
 abbrev Some : {A : Type 0} {ℓ : Level} → Tree A ℓ → Type 0
 Some StrEmpty = ⊥
@@ -65,8 +55,8 @@ says_end b i h = says_iff b h i.to i.fro
 module _ {ws txt : List ℕ} {used l : ℕ} (b : Before ws txt used l) where
   pub toward_falls : (side : Side) (from : ℕ) → from < l → (j : ℕ) → 0 < j → j ≤ from
       → word (record_at ws j) (toward side) < j
-  toward_falls left from h j p q = (links_earlier (b.rows j p (omega arith))).1
-  toward_falls right from h j p q = (links_earlier (b.rows j p (omega arith))).0
+  toward_falls Left from h j p q = (links_earlier (b.rows j p (omega arith))).1
+  toward_falls Right from h j p q = (links_earlier (b.rows j p (omega arith))).0
 
   module _ (w : Which) (ℓ : Level) where
     abbrev the : ℕ → Tree (Item w) ℓ
@@ -89,8 +79,8 @@ module _ {ws txt : List ℕ} {used l : ℕ} (b : Before ws txt used l) where
       toward_link = go side
         where
           go : (side : Side) → LinkOk ws x (word (record_at ws x) (toward side)) (kind w (tree ℓ))
-          go left = (branch_at ok w ℓ e).right
-          go right = (branch_at ok w ℓ e).left
+          go Left = (branch_at ok w ℓ e).right
+          go Right = (branch_at ok w ℓ e).left
 
       all_at : (P : Str → Type 0) → P (key_of txt (record_at ws x))
           → AllKeys P (the (word (record_at ws x) (away side)))
@@ -99,8 +89,8 @@ module _ {ws txt : List ℕ} {used l : ℕ} (b : Before ws txt used l) where
         where
           go : (side : Side) → P (key_of txt (record_at ws x)) → AllKeys P (the (word (record_at ws x) (away side)))
               → AllKeys P (the (word (record_at ws x) (toward side))) → AllKeys P (the x)
-          go left k i j = rw seen (k, i, j)
-          go right k i j = rw seen (k, j, i)
+          go Left k i j = rw seen (k, i, j)
+          go Right k i j = rw seen (k, j, i)
 
       at_all : (P : Str → Type 0) → AllKeys P (the x)
           → P (key_of txt (record_at ws x)) × AllKeys P (the (word (record_at ws x) (toward side)))
@@ -109,8 +99,8 @@ module _ {ws txt : List ℕ} {used l : ℕ} (b : Before ws txt used l) where
           go : (side : Side) → P (key_of txt (record_at ws x)) × AllKeys P (the (left_link (record_at ws x)))
               × AllKeys P (the (right_link (record_at ws x)))
               → P (key_of txt (record_at ws x)) × AllKeys P (the (word (record_at ws x) (toward side)))
-          go left a = (a.0, a.2)
-          go right a = (a.0, a.1)
+          go Left a = (a.0, a.2)
+          go Right a = (a.0, a.1)
 
       sides : AllKeys (λ y. On side y (key_of txt (record_at ws x))) (the (word (record_at ws x) (away side)))
           × AllKeys (λ y. On side (key_of txt (record_at ws x)) y) (the (word (record_at ws x) (toward side)))
@@ -119,8 +109,8 @@ module _ {ws txt : List ℕ} {used l : ℕ} (b : Before ws txt used l) where
           go : (side : Side) → Ordered (row w txt (record_at ws x) (what w ws txt) (tree ℓ))
               → AllKeys (λ y. On side y (key_of txt (record_at ws x))) (the (word (record_at ws x) (away side)))
               × AllKeys (λ y. On side (key_of txt (record_at ws x)) y) (the (word (record_at ws x) (toward side)))
-          go left o = (o.0, o.1)
-          go right o = (o.1, o.0)
+          go Left o = (o.0, o.1)
+          go Right o = (o.1, o.0)
 
       -- Where the branch's own key is on the side of k, so are those away from k.
       away_all : (k : Str) → On side (key_of txt (record_at ws x)) k

@@ -1,3 +1,4 @@
 pub mod Noted
 pub mod TextOk
 pub mod Far
+pub mod Tests

@@ -7,53 +7,88 @@ ghost use Rattle.source.specs.Rules.{Fits, ◌<ˢ◌};
 ghost use Rattle.memory.specs.Layout.{span};
 ghost use Rattle.memory.specs.Sound.{Says, LinkOk, TextOk};
 ghost use Rattle.text_query.specs.Queries.{byte_rule};
-ghost use Rattle.sound_field.specs.Fields.{Subtree, Far, WaysNoted, CanNoteWay, Ending, SaysLeft, SaysRight};
+ghost use Rattle.sound_field.specs.Fields.{link_word, other, end_on, Subtree, Far, Noted, CanNote, Ending, SaysSide};
 
 use memory::Span;
 use text_query::Rule;
 
+// A side of a branch: of the keys before its own, or of those after it.
+#[derive(Clone, Copy)]
+pub enum Side {
+    Left,
+    Right,
+}
+
+impl Side {
+    // The word of the links on this side.
+    #[inline(always)]
+    fn word(self) -> usize
+        ensures { result ≡ link_word self }
+    {
+        match self {
+            Side::Left => memory::LEFT,
+            Side::Right => memory::RIGHT,
+        }
+    }
+
+    #[inline(always)]
+    fn other(self) -> Side
+        ensures { result ≡ other self }
+    {
+        match self {
+            Side::Left => Side::Right,
+            Side::Right => Side::Left,
+        }
+    }
+}
+
+// Where the ways from a record by the links to the left, and by those to the right, end: at the least key of its tree, and at the greatest.
+#[derive(Clone, Copy)]
+pub struct Ends {
+    pub least: u32,
+    pub greatest: u32,
+}
+
+impl Ends {
+    #[inline(always)]
+    fn on(self, side: Side) -> u32
+        ensures { result ≡ end_on side self }
+    {
+        match side {
+            Side::Left => self.least,
+            Side::Right => self.greatest,
+        }
+    }
+}
+
+// The record that is tested, and the memory that it stands in. That the records before it are right is no field: a fact here has one proof,
+// and Before has more.
+#[derive(Clone, Copy)]
+pub struct Tested<'a> {
+    pub words: &'a [u32],
+    pub text: &'a [u8],
+    pub used: u32,
+    pub link: u32,
+    pub row: &'a [u32],
+}
+
 // Is the span in the used part, `low` to `high` bytes long, and does each byte keep the rule?
-pub fn text_ok(
-    text: &[u8],
-    used: u32,
-    start: u32,
-    len: u32,
-    low: usize,
-    high: usize,
-    rule: Rule,
-) -> bool
+pub fn text_ok(text: &[u8], used: u32, at: Span, low: usize, high: usize, rule: Rule) -> bool
     requires { used ≤ length text.now }
-    ensures { Says result (TextOk (Fits (byte_rule rule) low high) text.now used start len) }
+    ensures { Says result (TextOk (Fits (byte_rule rule) low high) text.now used at.start at.len) }
 {
-    let s = start as usize;
-    let n = len as usize;
-    if (used as usize) < s + n {
+    let start = at.start as usize;
+    let len = at.len as usize;
+    if (used as usize) < start + len {
         return false;
     }
-    if n < low {
+    if len < low {
         return false;
     }
-    if high < n {
+    if high < len {
         return false;
     }
-    text_query::all_allowed(rule, &text[s..s + n])
-}
-
-// The same number, in 64 bits.
-pub fn wide(x: u32) -> u64
-    ensures { result ≡ x }
-{
-    x as u64
-}
-
-// Are the numbers equal?
-pub fn same(a: u64, b: u64) -> bool
-    ensures { Says result (a ≡ b) }
-{
-    if a == b {
-        return true;
-    }
-    false
+    text_query::all_allowed(rule, &text[start..start + len])
 }
 
 // Does the link `x`, in the record of `link`, name none or an earlier record of the kind `k`?
@@ -67,10 +102,7 @@ pub fn link_ok(words: &[u32], link: u32, x: u32, k: u32) -> bool
     if link <= x {
         return false;
     }
-    if memory_access::word_of(words, x, memory::KIND) == k {
-        return true;
-    }
-    false
+    memory_access::word_of(words, x, memory::KIND) == k
 }
 
 // Is `a` before `b`?
@@ -81,95 +113,64 @@ fn less(a: &[u8], b: &[u8]) -> bool
 }
 
 // Is the text of the first span before that of the second?
-fn spans_less(text: &[u8], s: u32, n: u32, t: u32, m: u32) -> bool
-    requires { (s + n ≤ length text.now) × (t + m ≤ length text.now) }
-    ensures { Says result (span text.now s n <ˢ span text.now t m) }
+fn spans_less(text: &[u8], a: Span, b: Span) -> bool
+    requires { (a.start + a.len ≤ length text.now) × (b.start + b.len ≤ length text.now) }
+    ensures { Says result (span text.now a.start a.len <ˢ span text.now b.start b.len) }
 {
-    let a = s as usize;
-    let b = t as usize;
-    less(&text[a..a + n as usize], &text[b..b + m as usize])
+    let start = a.start as usize;
+    let next = b.start as usize;
+    less(
+        &text[start..start + a.len as usize],
+        &text[next..next + b.len as usize],
+    )
 }
 
-// Notes for the record of `link` where the way by the links in word `k` ends: at itself, or where that of the next record does.
-// Records past the notes are not noted.
-pub fn note(words: &[u32], link: u32, k: usize, notes: &mut [u32])
-    requires { CanNoteWay words.now k link notes.old }
-    ensures ways_noted { WaysNoted words.now k (link + 1) notes.new }
-    ensures notes_len { length notes.new ≡ length notes.old }
+// Where the way from `link` by the links on a side ends: at itself, or where that of the next record does.
+pub fn next_end(words: &[u32], link: u32, side: Side, notes: &[Ends]) -> u32
+    requires { CanNote words.now link notes.now × (link < length notes.now) }
+    ensures { Far words.now (link_word side) link result }
 {
-    let at = link as usize;
-    if notes.len() <= at {
-        return;
+    let next = memory_access::word_of(words, link, side.word());
+    if next == 0 {
+        return link;
     }
-    let next = memory_access::word_of(words, link, k);
-    let mut end = link;
-    if 0 < next {
-        end = notes[next as usize];
-    }
-    notes[at] = end;
+    notes[next as usize].on(side)
 }
 
-// Where the way from `from` by the links in word `k` ends. The notes have it for the records that they reach.
-fn end_of(words: &[u32], from: u32, k: usize, notes: &[u32]) -> u32
-    requires { Ending words.now k from notes.now }
-    ensures { Far words.now k from result }
+// Where the way from `from` by the links on a side ends. The notes have it for the records that they reach.
+#[inline(always)]
+fn end_of(words: &[u32], from: u32, side: Side, notes: &[Ends]) -> u32
+    requires { Ending words.now side from notes.now }
+    ensures { Far words.now (link_word side) from result }
 {
-    let noted = notes.len();
     let mut x = from;
-    while noted <= x as usize {
-        let next = memory_access::word_of(words, x, k);
+    while notes.len() <= x as usize {
+        let next = memory_access::word_of(words, x, side.word());
         if next == 0 {
             return x;
         }
         x = next;
     }
-    notes[x as usize]
+    notes[x as usize].on(side)
 }
 
-// Are all keys of the tree `top` before the key, a span of the used text? The notes are of the ways to the right.
-pub fn left_ok(
-    words: &[u32],
-    text: &[u8],
-    used: u32,
-    link: u32,
-    k: u32,
-    top: u32,
-    key: Span,
-    notes: &[u32],
-) -> bool
-    requires subtree { Subtree words.now text.now used link k top key.start key.len }
-    requires ways_noted { WaysNoted words.now 4 link notes.now }
-    ensures { SaysLeft words.now text.now k top key.start key.len result }
+// Are all keys of the tree `top` on that side of the key, a span of the used text?
+#[inline(always)]
+pub fn side_ok(t: Tested, k: u32, side: Side, top: u32, key: Span, notes: &[Ends]) -> bool
+    requires subtree { Subtree t.words.now t.text.now t.used t.link k top key.start key.len }
+    requires noted { Noted t.words.now t.link notes.now }
+    ensures { SaysSide t.entry.words.now t.entry.text.now side k top key.start key.len result }
 {
     if top == 0 {
         return true;
     }
-    let x = end_of(words, top, memory::RIGHT, notes);
-    let s = memory_access::word_of(words, x, memory::TEXT_START);
-    let n = memory_access::word_of(words, x, memory::TEXT_LEN);
-    spans_less(text, s, n, key.start, key.len)
-}
-
-// Are all keys of the tree `top` after the key, a span of the used text? The notes are of the ways to the left.
-pub fn right_ok(
-    words: &[u32],
-    text: &[u8],
-    used: u32,
-    link: u32,
-    k: u32,
-    top: u32,
-    key: Span,
-    notes: &[u32],
-) -> bool
-    requires subtree { Subtree words.now text.now used link k top key.start key.len }
-    requires ways_noted { WaysNoted words.now 3 link notes.now }
-    ensures { SaysRight words.now text.now k top key.start key.len result }
-{
-    if top == 0 {
-        return true;
+    let x = end_of(t.words, top, side.other(), notes);
+    let found = Span {
+        start: memory_access::word_of(t.words, x, memory::TEXT_START),
+        len: memory_access::word_of(t.words, x, memory::TEXT_LEN),
+    };
+    match side {
+        Side::Left => spans_less(t.text, found, key),
+        Side::Right => spans_less(t.text, key, found),
     }
-    let x = end_of(words, top, memory::LEFT, notes);
-    let s = memory_access::word_of(words, x, memory::TEXT_START);
-    let n = memory_access::word_of(words, x, memory::TEXT_LEN);
-    spans_less(text, key.start, key.len, s, n)
 }

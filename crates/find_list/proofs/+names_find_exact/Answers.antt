@@ -2,22 +2,9 @@
 use mathlib.Core.Path.{sym, ◌∙◌}
 use native.Mathlib.Omega.{arith}
 use Rattle.find_list.proofs.Collections.{collection_right, imported_lighter, any_imported, any_own}
-use Rattle.find_list.proofs.Holder.{find_all, first_imported, first_names, find_here, find_on, find_none}
-use Rattle.memory.proofs.At.{at_fits}
+use Rattle.find_list.proofs.Holder.{first_imported, first_names, find_here, find_on, find_none}
 use Rattle.find_list.proofs.+names_find_exact.Goals as goal
 use Rattle.find_list.proofs.+names_find_exact.Goals.{then-sort_of-eq-IMPORTED, else-sort_of-eq-IMPORTED}
-
-pub loop-link-init : goal.loop-link-init
-loop-link-init t c =
-    find_all c.requires
-
-pub own_of-own-requires : goal.own_of-own-requires
-own_of-own-requires t c =
-    omega (arith, at_fits c.loop-link.invariant.any.list, c.loop-link-test.true)
-
-pub sort_of-requires : goal.sort_of-requires
-sort_of-requires t c =
-    omega (arith, at_fits c.loop-link.invariant.any.list, c.loop-link-test.true)
 
 pub names_find_exact-found-requires : goal.names_find_exact-found-requires
 names_find_exact-found-requires t c =
@@ -34,21 +21,17 @@ btree_find_exact-found-requires t c =
     any_own c.loop-link.invariant.any c.loop-link-test.true c.own_of-own.ensures
     (λ e. c.if-sort_of-eq-IMPORTED.false (c.sort_of.ensures ∙ e))
 
-pub returns-then-found-gt0 : goal.returns-then-found-gt0
-returns-then-found-gt0 t c =
+pub returns-then-is_some-clause-found : goal.returns-then-is_some-clause-found
+returns-then-is_some-clause-found t c =
     let p = c.loop-link-test.true in
     let own = c.own_of-own.ensures in
     let sort = c.sort_of.ensures in
-    find_here c.loop-link.invariant (elim c.if-sort_of-eq-IMPORTED.branch [
-      | then-sort_of-eq-IMPORTED w ↦
-          rw w.found-is (first_imported p own (sym sort ∙ w.if-sort_of-eq-IMPORTED.true) w.names_find_exact-found.ensures)
-      | else-sort_of-eq-IMPORTED w ↦
-          rw w.found-is (first_names p own (λ e. w.if-sort_of-eq-IMPORTED.false (sort ∙ e)) w.btree_find_exact-found.ensures)
-    ]) (omega (arith, c.if-found-gt0.true))
-
-pub rest_of-link-requires : goal.rest_of-link-requires
-rest_of-link-requires t c =
-    omega (arith, at_fits c.loop-link.invariant.any.list, c.loop-link-test.true)
+    find_here c.loop-link.invariant _ (elim c.if-sort_of-eq-IMPORTED.branch [
+      | then-sort_of-eq-IMPORTED w ↦ rw w.found-is
+          (first_imported w.names_find_exact-found.ensures.nonzero p own (sym sort ∙ w.if-sort_of-eq-IMPORTED.true) w.names_find_exact-found.ensures.found)
+      | else-sort_of-eq-IMPORTED w ↦ rw w.found-is
+          (first_names w.btree_find_exact-found.ensures.nonzero p own (λ e. w.if-sort_of-eq-IMPORTED.false (sort ∙ e)) w.btree_find_exact-found.ensures.found)
+    ]) (sym c.is_some.ensures ∙ c.if-is_some.true)
 
 pub loop-link-smaller : goal.loop-link-smaller
 loop-link-smaller t c =
@@ -63,14 +46,14 @@ loop-link-preserved t c =
     let p = c.loop-link-test.true in
     let own = c.own_of-own.ensures in
     let sort = c.sort_of.ensures in
-    find_on c.loop-link.invariant {r = c.if-sort_of-eq-IMPORTED.found} p (elim c.if-sort_of-eq-IMPORTED.branch [
-      | then-sort_of-eq-IMPORTED w ↦
-          rw w.found-is (first_imported p own (sym sort ∙ w.if-sort_of-eq-IMPORTED.true) w.names_find_exact-found.ensures)
-      | else-sort_of-eq-IMPORTED w ↦
-          rw w.found-is (first_names p own (λ e. w.if-sort_of-eq-IMPORTED.false (sort ∙ e)) w.btree_find_exact-found.ensures)
-    ]) (omega (arith, c.if-found-gt0.false))
+    find_on c.loop-link.invariant _ p (elim c.if-sort_of-eq-IMPORTED.branch [
+      | then-sort_of-eq-IMPORTED w ↦ rw w.found-is
+          (first_imported w.names_find_exact-found.ensures.nonzero p own (sym sort ∙ w.if-sort_of-eq-IMPORTED.true) w.names_find_exact-found.ensures.found)
+      | else-sort_of-eq-IMPORTED w ↦ rw w.found-is
+          (first_names w.btree_find_exact-found.ensures.nonzero p own (λ e. w.if-sort_of-eq-IMPORTED.false (sort ∙ e)) w.btree_find_exact-found.ensures.found)
+    ]) (sym c.is_some.ensures ∙ c.if-is_some.false)
     c.rest_of-link.ensures
 
-pub returns : goal.returns
-returns t c =
+pub returns-clause-found : goal.returns-clause-found
+returns-clause-found t c =
     find_none c.loop-link.invariant c.loop-link-test.false

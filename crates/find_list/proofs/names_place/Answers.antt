@@ -1,22 +1,12 @@
 -- `find_list::names_place` meets its contract.
-use mathlib.Core.Logic.{⊎_elim}
+use mathlib.Core.Bool.{not}
+use mathlib.Core.Path.{ap, ◌∙◌}
 use native.Mathlib.Omega.{arith}
-use Rattle.find_list.proofs.Collections.{list_light, any_first, any_rest}
+use Rattle.find_list.proofs.Collections.{list_light, any_rest}
 use Rattle.find_list.proofs.NamesPlaced.{holder_first, holder_rest, names_placed}
 use Rattle.memory.proofs.At.{at_fits}
+use Rattle.find_list.proofs.names_place.Goals.{then-is_none, else-is_none}
 use Rattle.find_list.proofs.names_place.Goals as goal
-
-pub lead_of-lead-requires : goal.lead_of-lead-requires
-lead_of-lead-requires c =
-    at_fits c.requires.list
-
-pub place_of-place-requires : goal.place_of-place-requires
-place_of-place-requires c =
-    any_first c.requires c.lead_of-lead.ensures
-
-pub names_find_exact-holder-requires : goal.names_find_exact-holder-requires
-names_find_exact-holder-requires c =
-    any_rest c.requires c.lead_of-lead.ensures
 
 pub weight_of-requires : goal.weight_of-requires
 weight_of-requires c =
@@ -34,9 +24,15 @@ pub returns : goal.returns
 returns c =
     let d = c.lead_of-lead.ensures in
     let p = c.place_of-place.ensures in
+    let some = c.is_none.ensures in
     names_placed c.requires d p
-    (⊎_elim
-    (λ w. rw w.holder-is (holder_rest d p.found (omega (arith, w.if-holder-eq0.true)) w.names_find_exact-holder.ensures))
-    (λ w. rw w.holder-is (holder_first d p.found (omega (arith, w.if-holder-eq0.false))))
-    c.if-holder-eq0.branch-raw)
+    (elim c.if-is_none.branch [
+      | then-is_none w ↦ rw w.holder-is w.names_find_exact-holder.ensures.nonzero
+      | else-is_none w ↦ rw w.holder-is p.nonzero
+    ])
+    (elim c.if-is_none.branch [
+      | then-is_none w ↦ rw w.holder-is
+          (holder_rest d _ p.found (some ∙ ap not w.if-is_none.true) w.names_find_exact-holder.ensures.found)
+      | else-is_none w ↦ rw w.holder-is (holder_first d _ p.found p.nonzero (some ∙ ap not w.if-is_none.false))
+    ])
     (omega (arith, c.weight_of.ensures))

@@ -1,15 +1,19 @@
 -- loaded_module meets its contract.
+use mathlib.Core.Path.{refl}
+use native.Mathlib.Omega.{arith}
 use Rattle.find_trie.proofs.Symbols.{loaded_none, loaded_is_module, loaded_is_namespace}
 use Rattle.find_trie.proofs.loaded_module.Goals as goal
 
-pub returns-then-holder-eq0 : goal.returns-then-holder-eq0
-returns-then-holder-eq0 c =
-    loaded_none c.if-holder-eq0.true
+pub returns-in_default : goal.returns-in_default
+returns-in_default c =
+    rw c.in_default.is (loaded_none refl)
 
 pub returns-in-Module : goal.returns-in-Module
 returns-in-Module c =
-    loaded_is_module c.if-holder-eq0.false c.symbol_of.ensures c.in-Module.is
+    let some = rw c.in-Some.is at c.requires in
+    rw c.in-Some.is (loaded_is_module (λ z. omega (arith, some.0)) c.symbol_of.ensures c.in-Module.is)
 
 pub returns-in-Namespace : goal.returns-in-Namespace
 returns-in-Namespace c =
-    loaded_is_namespace c.if-holder-eq0.false c.symbol_of.ensures c.in-Namespace.is
+    let some = rw c.in-Some.is at c.requires in
+    rw c.in-Some.is (loaded_is_namespace (λ z. omega (arith, some.0)) c.symbol_of.ensures c.in-Namespace.is)

@@ -6,8 +6,8 @@ use Rattle.find_trie.proofs.scope_of.Goals as goal
 
 pub trie_held-requires : goal.trie_held-requires
 trie_held-requires c =
-    omega (arith, holder_fits c.requires c.names_find_exact-holder.ensures)
+    omega (arith, c.unwrap_or.ensures, holder_fits c.requires c.names_find_exact-holder.ensures.found)
 
 pub returns : goal.returns
 returns c w a =
-    holder_scope a (c.names_find_exact-holder.ensures w ns a) c.trie_held.ensures
+    holder_scope a (c.names_find_exact-holder.ensures.found w ns a) (rw c.unwrap_or.ensures at c.trie_held.ensures)

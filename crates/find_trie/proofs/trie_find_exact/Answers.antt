@@ -21,9 +21,9 @@ names_find_exact-requires c =
 
 pub returns-then-is_empty : goal.returns-then-is_empty
 returns-then-is_empty c w t =
-    found_last (c.loop-segment.invariant w t)
+    rw c.unwrap_or.ensures (found_last (c.loop-segment.invariant w t)
     (c.in-Some.ensures.steps ∙ ap (λ q. c.in-Some.segment.now ∷ q) (at_last _ c.is_empty.ensures c.if-is_empty.true))
-    c.trie_of-t.ensures c.names_find_exact.ensures
+    c.trie_of-t.ensures c.names_find_exact.ensures.found)
 
 pub scope_of-link-requires : goal.scope_of-link-requires
 scope_of-link-requires c =

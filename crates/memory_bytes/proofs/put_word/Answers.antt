@@ -5,5 +5,5 @@ use Rattle.memory_bytes.proofs.put_word.Goals as goal
 
 pub returns : goal.returns
 returns c =
-    rw c.to_le_bytes.ensures (word_put c.args.bytes.now c.args.k _ _ _ _ c.requires c.args.word
-    (omega arith) (omega arith) (omega arith) (omega (arith, c.ranges.word.fits)))
+    word_put c.args.bytes.now c.args.k _ _ _ _ c.requires c.args.word c.low.ensures c.low-2.ensures c.low-3.ensures
+    (omega (arith, c.low-4.ensures))

@@ -1,7 +1,7 @@
 -- ins meets its contract.
 use Rattle.source.specs.Types.{bind}
 use Rattle.memory.specs.Layout.{modules}
-use Rattle.find_trie.proofs.Links.{holder_fits}
+use Rattle.find_trie.proofs.Links.{holder_some}
 use Rattle.register_change.proofs.Nodes.{placed_part, ins_key, ins_list, ins_any, ins_made, ins_none}
 use native.Mathlib.Omega.{arith}
 use Rattle.register_change.proofs.ins.Goals as goal
@@ -38,13 +38,13 @@ overflow_add-last-2 c =
 
 pub ns_inserts-requires : goal.ns_inserts-requires
 ns_inserts-requires c =
-    holder_fits (record { which = modules; level = bind; list = ins_list c.requires.holds })
-    c.names_place-p.ensures.found
+    holder_some (record { which = modules; level = bind; list = ins_list c.requires.holds })
+    _ c.names_place-p.ensures.nonzero c.names_place-p.ensures.found
 
 pub loaded_module-requires : goal.loaded_module-requires
 loaded_module-requires c =
-    holder_fits (record { which = modules; level = bind; list = ins_list c.requires.holds })
-    c.names_place-p.ensures.found
+    holder_some (record { which = modules; level = bind; list = ins_list c.requires.holds })
+    _ c.names_place-p.ensures.nonzero c.names_place-p.ensures.found
 
 pub symbol_row-row-requires : goal.symbol_row-row-requires
 symbol_row-row-requires c =

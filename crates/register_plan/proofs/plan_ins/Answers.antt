@@ -1,5 +1,5 @@
 -- plan_ins meets its contract.
-use Rattle.find_trie.proofs.Links.{any_bindings, holder_fits}
+use Rattle.find_trie.proofs.Links.{any_bindings, holder_some}
 use Rattle.register_plan.proofs.Plans.{placed_small, step_inserted, not_inserted}
 use native.Mathlib.Omega.{arith}
 use Rattle.memory.proofs.At.{at_fits}
@@ -15,7 +15,7 @@ names_place-p-requires c =
 
 pub ns_inserts-requires : goal.ns_inserts-requires
 ns_inserts-requires c =
-    holder_fits (any_bindings c.requires c.trie_of-t.ensures) c.names_place-p.ensures.found
+    holder_some (any_bindings c.requires c.trie_of-t.ensures) _ c.names_place-p.ensures.nonzero c.names_place-p.ensures.found
 
 pub overflow_add-result : goal.overflow_add-result
 overflow_add-result c =

@@ -17,6 +17,7 @@ pub trie_held-link-requires : goal.trie_held-link-requires
 trie_held-link-requires c =
     omega (
       arith,
+      c.unwrap_or.ensures,
       holder_fits (any_namespaces c.requires.0.trie c.trie_of-t.ensures) c.names_place-p.ensures.found,
     )
 
@@ -29,4 +30,4 @@ insertion-requires c =
 
 pub returns : goal.returns
 returns c w t =
-    rw c.insertion.ensures (path_stepped t c.trie_of-t.ensures c.names_place-p.ensures c.trie_held-link.ensures c.note_step.ensures)
+    rw c.insertion.ensures (path_stepped t c.trie_of-t.ensures c.names_place-p.ensures (rw c.unwrap_or.ensures at c.trie_held-link.ensures) c.note_step.ensures)

@@ -7,27 +7,19 @@ pub loop-x-init : goal.loop-x-init
 loop-x-init c =
     going_start c.requires
 
-pub word_of-next-requires : goal.word_of-next-requires
-word_of-next-requires c =
-    let g = c.loop-x.invariant in omega (arith, g.some, g.within, c.requires.fits, c.requires.word_of)
-
 pub returns-then-next-eq0 : goal.returns-then-next-eq0
 returns-then-next-eq0 c =
-    going_end c.requires c.loop-x.invariant c.word_of-next.ensures
+    going_end c.requires c.loop-x.invariant (rw c.word.ensures at c.word_of-next.ensures)
     c.if-next-eq0.true
 
 pub loop-x-smaller : goal.loop-x-smaller
 loop-x-smaller c =
-    going_less c.requires c.loop-x.invariant c.word_of-next.ensures
+    going_less c.requires c.loop-x.invariant (rw c.word.ensures at c.word_of-next.ensures)
 
 pub loop-x-preserved : goal.loop-x-preserved
 loop-x-preserved c =
-    going_on c.requires c.loop-x.invariant c.word_of-next.ensures c.if-next-eq0.false
-
-pub bounds-notes-x : goal.bounds-notes-x
-bounds-notes-x c =
-    omega arith
+    going_on c.requires c.loop-x.invariant (rw c.word.ensures at c.word_of-next.ensures) c.if-next-eq0.false
 
 pub returns : goal.returns
 returns c =
-    going_noted c.requires c.loop-x.invariant (omega arith)
+    rw c.on.ensures (going_noted c.requires c.loop-x.invariant (omega arith))

@@ -5,4 +5,4 @@ use Rattle.sound_field.proofs.spans_less.Goals as goal
 pub returns : goal.returns
 returns c =
     let a = c.args in
-    rw (← part_span a.text.now a.s a.n, ← part_span a.text.now a.t a.m) c.less.ensures
+    rw (← part_span a.text.now a.a.start a.a.len, ← part_span a.text.now a.b.start a.b.len) c.less.ensures
