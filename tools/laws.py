@@ -15,6 +15,7 @@ MARK = r'(?:(?:pub|abbrev|unfoldable) )*'
 GROUP = re.compile(r'\s*(?:%smutual|(?:pub )?module\b.*)\s*$' % MARK)
 DECL = re.compile(r'(\s*)(%s)(?:(record|data) (%s)|(%s(?: %s)*) :(?:\s|$))' % (MARK, WORD, WORD, WORD))
 CITE = re.compile(r'Rattle\.(\w+)\.(specs|proofs)\.(\w+)')
+PATH = re.compile(r'\b(\w+)::(specs|proofs)::(\w+)::(\w+)')  # of an attribute: using(crate::proofs::Notes::note_one)
 
 
 class Law:
@@ -61,6 +62,7 @@ def main():
     laws, roots = [], []
     for path in files:
         cited = {path} | {'crates/%s/%s/%s.antt' % m for m in CITE.findall(texts[path])}
+        cited |= {'crates/%s/%s/%s.antt' % (path.split('/')[1] if m[0] == 'crate' else m[0], m[1], m[2]) for m in PATH.findall(texts[path])}
         found, rest = [], texts[path]
         if re.fullmatch(r'crates/[^/]+/(specs|proofs)/[^/]+\.antt', path) and not path.endswith('Lib.antt'):
             found, rest = parse(path, texts[path])

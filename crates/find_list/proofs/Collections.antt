@@ -80,9 +80,6 @@ module _ {ws txt : List ℕ} {x y : ℕ} (a : AnyList ws txt x) (p : 0 < x) (q :
 
 -- ---- the first tree and the rest
 module _ {ws txt : List ℕ} {x first rest : ℕ} (a : AnyList ws txt x) (d : Led ws x first rest) where
-  pub any_first : AnyTree ws txt first
-  any_first = any_tree (at_of a.list (tree _) (omega arith) (d txt _ _ a.list).first_link)
-
   pub any_rest : AnyList ws txt rest
   any_rest = any_list (at_of a.list (list _) (omega arith) (d txt _ _ a.list).rest_link)
 

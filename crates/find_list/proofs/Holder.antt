@@ -1,6 +1,6 @@
 -- A find that goes along a list: what the list at hand says is what the whole says.
 use Prim.Native.Nat.{ℕ, ◌+◌, ◌≤◌, ◌<◌}
-use mathlib.Core.Path.{◌≡◌, refl, ◌∙◌}
+use mathlib.Core.Path.{◌≡◌, ◌∙◌}
 use mathlib.Core.List.{List}
 use mathlib.Core.Option.{none, some}
 use mathlib.Core.Bool.{true, false, true≢false, false≢true}
@@ -76,9 +76,6 @@ module _ {ws txt : List ℕ} {key : Str} {link own : ℕ} {r : Option ℕ} (n : 
           says = rw (names_reads t p e, ← q, g.says);
         };
   }
-
-pub find_all : {ws txt : List ℕ} {x : ℕ} {key : Str} → AnyList ws txt x → Find ws txt x key x
-find_all a = record { earlier = omega arith; lighter = omega arith; any = a; says = λ w v t. record { here = t; finds = refl } }
 
 module _ {ws txt : List ℕ} {x : ℕ} {key : Str} {link : ℕ} (g : Find ws txt x key link) where
   pub find_here : (r : Option ℕ) → First ws txt link key r → is_some r ≡ true → Holder ws txt x key (unwrap_or r 0)

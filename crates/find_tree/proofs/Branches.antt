@@ -12,7 +12,7 @@ use Rattle.memory.specs.Sound.{BranchOk, At}
 use Rattle.memory.proofs.RecordOk.{links_earlier, branch_at, ordered_at}
 use Rattle.memory.proofs.Seen.{link_fits, link_ok, link_what}
 use Rattle.find_tree.specs.Tree.{held, AnyTree}
-use Rattle.memory.proofs.At.{no_link, at_of}
+use Rattle.memory.proofs.At.{at_of}
 
 pub any_tree : {ws txt : List ℕ} {w : Which} {ℓ : Level} {x : ℕ} → At ws txt w (tree ℓ) x → AnyTree ws txt x
 any_tree {w = w} {ℓ} t = record { which = w; level = ℓ; tree = t }
@@ -36,9 +36,6 @@ module _ {ws txt : List ℕ} {w : Which} {ℓ : Level} {x : ℕ} (t : At ws txt 
 
     pub right_tree : At ws txt w (tree ℓ) (right_link (record_at ws x))
     right_tree = at_of t (tree ℓ) (omega arith) branch_right.right
-
-pub no_tree : {ws txt : List ℕ} {x : ℕ} → AnyTree ws txt x → AnyTree ws txt 0
-no_tree {x = x} a = any_tree {w = a.which} {ℓ = a.level} (at_of a.tree (tree a.level) (omega arith) (no_link x _))
 
 module _ {ws txt : List ℕ} {x : ℕ} (a : AnyTree ws txt x) where
   pub tree_fits : x * 12 ≤ length ws

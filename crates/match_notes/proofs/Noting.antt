@@ -175,10 +175,6 @@ pub record Descending (ws txt : List ℕ) (p low : Str) (strict : Bool) (from at
   pub none : notes'.branches ≡ [] → passing ws txt p (past strict low) from ≡ passing ws txt p (past strict low) at
 
 module _ {ws txt : List ℕ} {p low : Str} {strict : Bool} {from : ℕ} {notes : Notes} where
-  pub descending_all : AnyTree ws txt from → starts_with low p ≡ true
-      → Descending ws txt p low strict from from notes notes
-  descending_all a s = record { bound = s; any = a; on = λ l o. o; none = λ e. refl }
-
   module _ {at : ℕ} {notes' : Notes} (d : Descending ws txt p low strict from at notes notes') where
     pub descending_done : at ≤ 0 → Descends ws txt p low strict from notes notes'
     descending_done h =
@@ -223,9 +219,6 @@ pub record Lefting (ws txt : List ℕ) (p : Str) (from at : ℕ) (notes notes' :
       → Allˡ (λ x. b (key_at ws txt x) ≡ true) (branches ws at) × Noting ws txt p b notes' (matches ws txt at p) xs
 
 module _ {ws txt : List ℕ} {p : Str} {from : ℕ} {notes : Notes} where
-  pub lefting_all : AnyTree ws txt from → AllAfter ws txt p from → Lefting ws txt p from from notes notes
-  lefting_all a s = record { any = a; later = s; on = λ b l h o. (h, o) }
-
   module _ {at : ℕ} {notes' : Notes} (d : Lefting ws txt p from at notes notes') where
     pub lefting_done : at ≤ 0 → NotesLeft ws txt p from notes notes'
     lefting_done h =

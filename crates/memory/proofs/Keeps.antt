@@ -1,10 +1,10 @@
 -- What the links of a sound memory read as stays where only free text changes, and the used records stay right.
-use Prim.Native.Nat.{ℕ, ◌+◌, ◌≤◌, ◌<◌}
+use Prim.Native.Nat.{ℕ, ◌+◌, ◌≤◌}
 use mathlib.Core.Path.{◌≡◌, refl, sym, ap, ◌∙◌}
 use mathlib.Core.List.{List}
 use native.Mathlib.Omega.{arith}
-use lib.ListN.{length, get_or, take, set, length-set}
-use lib.Seq.{length-paste, take-length, take-take, take-set-le, get_or-take}
+use lib.ListN.{length, take}
+use lib.Seq.{length-paste, take-length, take-take}
 use Rattle.source.specs.Types.{Level, bind, ns}
 use Rattle.source.specs.Text.{Str}
 use Rattle.memory.specs.Layout.{record_at, word, span, Which, names, modules, item_of, Sort, tree, list, trieˢ, kind, row, what}
@@ -20,12 +20,6 @@ keeps_then {m} {n} {t' = t'} {t''} h a b = record {
   same = sym (take-take m n t'' h) ∙ ap (λ (xs : List ℕ). take m xs) b.same ∙ take-take m n t' h ∙ a.same;
   size = b.size ∙ a.size;
 }
-
-pub keeps_at : {n : ℕ} {t t' : List ℕ} → Keeps n t t' → (i : ℕ) → i < n → get_or t' i 0 ≡ get_or t i 0
-keeps_at {n} {t} {t'} k i h = sym (get_or-take n t' i 0 h) ∙ ap (λ (xs : List ℕ). get_or xs i 0) k.same ∙ get_or-take n t i 0 h
-
-pub keeps_set : (t : List ℕ) {n i : ℕ} (a : ℕ) → n ≤ i → Keeps n t (set t i a)
-keeps_set t {n} {i} a h = record { same = take-set-le n t i a h; size = length-set t i a }
 
 -- A text put after the used ones.
 module _ (txt : List ℕ) (used : ℕ) (s : List ℕ) (room : used + length s ≤ length txt) where

@@ -1,7 +1,7 @@
 -- What follows from a test's answer.
 use Prim.Native.Nat.{ℕ}
 use mathlib.Core.Path.{◌≡◌, sym, ◌∙◌}
-use mathlib.Core.Bool.{Bool, true, false, not, true≢false, false≢true}
+use mathlib.Core.Bool.{Bool, true, false, true≢false}
 use native.Mathlib.Omega.{arith}
 use Rattle.memory.specs.Sound.{Says}
 
@@ -17,15 +17,6 @@ says_fails false h e p = h p
 pub says_iff : (b : Bool) {P Q : Type 0} → Says b P → (P → Q) → (Q → P) → Says b Q
 says_iff true h f g = f h
 says_iff false h f g = λ q. h (g q)
-
--- The same, where the code asks for the test's negation.
-pub says_passes : (b : Bool) {P : Type 0} → Says b P → not b ≡ false → P
-says_passes true h e = h
-says_passes false h e = absurd (true≢false e)
-
-pub says_refuses : (b : Bool) {P : Type 0} → Says b P → not b ≡ true → P → ⊥
-says_refuses true h e p = false≢true e
-says_refuses false h e p = h p
 
 -- What follows from either answer of a test follows without the test, where it may be shown by contradiction.
 pub either_way : {P Q : Type 0} → (((Q → ⊥) → ⊥) → Q) → ((b : Bool) → Says b P → Q) → Q

@@ -13,7 +13,7 @@ use borrow.Author.Tests.{ltb-true, ltb-false}
 use lib.Seq.{ext_get_or, get_or-set_same, get_or-set_other, get_or-take, get_or_at, take-suc-set}
 use Rattle.source.specs.Lent.{Outside}
 use Rattle.memory_bytes.specs.Bytes.{word_at, words_at, Put, Stored}
-use Rattle.source.proofs.Outside.{outside_none, outside_set, outside_then, outside_wider, getD_before, get_d_after}
+use Rattle.source.proofs.Outside.{outside_set, outside_then, outside_wider, getD_before, get_d_after}
 
 -- ---- One word
 
@@ -133,9 +133,6 @@ pub record Storing (ws : List ℕ) (from to : ℕ) (bs bs' : List ℕ) (i : ℕ)
   pub words : (k : ℕ) → from ≤ k → k < i → word_at bs' k ≡ get_or ws k 0
   pub rest : Outside (from * 4) (to * 4) bs bs'
 
-pub storing_none : (ws : List ℕ) (from to : ℕ) (bs : List ℕ) → Storing ws from to bs bs from
-storing_none ws from to bs = record { above = omega arith; words = λ k h g. absurd (omega arith); rest = outside_none bs }
-
 pub storing_more : {ws bs bs' bs'' : List ℕ} {from to i : ℕ} → i < to → Put i (get_or ws i 0) bs' bs''
     → Storing ws from to bs bs' i → Storing ws from to bs bs'' (i + 1)
 storing_more {ws} {bs} {bs'} {bs''} {from} {to} {i} h p s = record {
@@ -148,10 +145,6 @@ storing_more {ws} {bs} {bs'} {bs''} {from} {to} {i} h p s = record {
 
   earlier : (k : ℕ) → from ≤ k → k < i → word_at bs'' k ≡ get_or ws k 0
   earlier k g l = word_before p.rest k (omega arith) ∙ s.words k g l
-
-pub storing_done : {ws bs bs' : List ℕ} {from to i : ℕ} → to ≤ i → Storing ws from to bs bs' i
-    → Stored ws from to bs bs'
-storing_done h s = record { words = λ k g l. s.words k g (omega arith); rest = s.rest }
 
 -- Words that were changed from a place up to another, and stored there, are read back.
 module _ {bs bs' ws new : List ℕ} (n : ℕ) {from to : ℕ} (changed : Outside from to (words_at bs n) new)

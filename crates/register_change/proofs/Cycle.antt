@@ -92,10 +92,6 @@ module _ {ws txt : List ℕ} {n used x at len : ℕ} {d : Descent} (g : Namespac
 abbrev pub first_of : List Step → Step
 first_of way = slice_index_or way 0 (record { below = 0; count = 0 })
 
-pub some_way : {ws txt : List ℕ} {x at : ℕ} {d : Descent} (way : List Step) → TrieWay ws txt x at d way → 0 < length way
-some_way [] y = absurd y.leads
-some_way (s ∷ way) y = omega arith
-
 -- ---- trie_mutate at the host
 module _ (ws txt : List ℕ) (at : ℕ) (d : Descent) (e : at ≡ d.end) where
   mutated_leaf : (tr : Trie (Item (which_of d.change)))

@@ -1,12 +1,9 @@
 -- Notes of where the ways by links end, and a way that goes on until it is noted.
 use Prim.Native.Nat.{ℕ, ◌+◌, ◌<◌, ◌≤◌}
-use mathlib.Core.Path.{◌≡◌, sym, subst}
+use mathlib.Core.Path.{◌≡◌}
 use mathlib.Core.List.{List}
-use mathlib.Core.Logic.{⊎_elim}
 use native.Mathlib.Omega.{arith}
-use native.Mathlib.Nat.{eq-or-lt_of_le}
-use lib.ListN.{length, get_or, set, length-set}
-use lib.Seq.{get_or-set_same, get_or-set_other}
+use lib.ListN.{length, get_or}
 use Rattle.memory.specs.Layout.{record_at, word}
 use Rattle.sound_field.specs.Fields.{link_word, end_on, Far, here, on, Noted, CanNote, Ending}
 use Rattle.sound_field.specs.declared.Side.{Side}
@@ -27,23 +24,7 @@ module _ {ws : List ℕ} {notes : List Ends} {l next : ℕ} (n : CanNote ws l no
   pub far_here : next ≡ 0 → Far ws (link_word side) l l
   far_here p = let z : word (record_at ws l) (link_word side) ≡ 0 = omega (arith, e) in here {x = l} z
 
--- The ends of the record of link l are noted.
-pub noted_more : {ws : List ℕ} {notes : List Ends} {l : ℕ} {ends : Ends} → Noted ws l notes → l < length notes
-    → ((side : Side) → Far ws (link_word side) l (end_on side ends)) → Noted ws (l + 1) (set notes l ends)
-noted_more {ws} {notes} {l} {ends} n room f = record {
-  far = λ side j p h b.
-      ⊎_elim
-      (λ q. subst (λ (i : ℕ). Far ws (link_word side) i (end_on side (get_or (set notes l ends) i none_noted))) (sym q)
-      (subst (λ (x : Ends). Far ws (link_word side) l (end_on side x)) (sym (get_or-set_same notes l ends none_noted room)) (f side)))
-      (λ q. subst (λ (x : Ends). Far ws (link_word side) j (end_on side x))
-      (sym (get_or-set_other notes l j ends none_noted (λ z. omega arith))) (n.far side j p q (omega (arith, length-set notes l ends))))
-      (eq-or-lt_of_le {n = j} {m = l} (omega arith));
 }
-
--- A record that the notes do not reach.
-pub noted_past : {ws : List ℕ} {notes : List Ends} {l : ℕ} → Noted ws l notes → length notes ≤ l
-    → Noted ws (l + 1) notes
-noted_past n past = record { far = λ side j p h b. n.far side j p (omega arith) b }
 
 -- On the way from a record: the end of what is left is the end of the whole.
 pub record Going (ws : List ℕ) (k from x : ℕ) : Type 0 where

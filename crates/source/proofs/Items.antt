@@ -3,9 +3,6 @@ use Prim.Native.Nat.{ℕ, zero, suc}
 use mathlib.Core.Path.{◌≡◌, refl}
 use mathlib.Core.Bool.{true, false, true≢false}
 use mathlib.Core.Option.{none, some}
-use native.Mathlib.Omega.{arith}
-use lib.Dec.{ltb}
-use borrow.Author.Tests.{le-ltb}
 use Rattle.source.specs.Tries.{dflt}
 use Rattle.source.specs.Items.{kind_number, kind_for, is_kind, read_kind, same_kind}
 use Rattle.source.specs.declared.ItemKind.{ItemKind}
@@ -61,21 +58,3 @@ unfolding same_kind kind_number
 kind_same Timer = refl
 kind_same Port = refl
 kind_same Register = refl
-
--- The numbers of kinds are 1 to 3.
-pub kind_below : (n : ℕ) → (n ≡ 0 → ⊥) → ltb n 4 ≡ is_kind n
-unfolding is_kind kind_for
-kind_below zero h = absurd (h refl)
-kind_below (suc zero) h = refl
-kind_below (suc (suc zero)) h = refl
-kind_below (suc (suc (suc zero))) h = refl
-kind_below (suc (suc (suc (suc n)))) h = le-ltb (suc (suc (suc (suc n)))) 4 (omega arith)
-
--- What is neither a Timer's number nor a Port's reads as Register.
-pub register_in : (n : ℕ) → (n ≡ 1 → ⊥) → (n ≡ 2 → ⊥) → Register ≡ read_kind n
-unfolding read_kind kind_for dflt
-register_in zero a b = refl
-register_in (suc zero) a b = absurd (a refl)
-register_in (suc (suc zero)) a b = absurd (b refl)
-register_in (suc (suc (suc zero))) a b = refl
-register_in (suc (suc (suc (suc n)))) a b = refl

@@ -4,8 +4,8 @@ use mathlib.Core.List.{List, [], ◌∷◌, ◌++◌, append_assoc, append-nil}
 use Prim.Native.Nat.{ℕ, ◌+◌, ◌-◌, ◌<◌, ◌≤◌}
 use native.Mathlib.Omega.{arith}
 use native.Mathlib.Numerals.{add-one}
-use lib.ListN.{length, get_or, take, drop, set, length-append, length-drop, take-append-drop}
-use lib.Seq.{take_all, length-take-le, take_at, drop_at, drop-drop, drop-length, set_split, take-suc}
+use lib.ListN.{length, take, drop, set, length-append, length-drop, take-append-drop}
+use lib.Seq.{take_all, length-take-le, take_at, drop_at, drop-drop, drop-length, set_split}
 use borrow.Rule.Slice.PartMut.{put_mid, mid_of}
 use Rattle.text.specs.Laid.{Laid}
 
@@ -56,12 +56,6 @@ laid_next {d} {d'} {s} {at} {r} c x h =
       fits = omega (arith, laid_length x);
       is = rw (add-one r) (set_split d' r c (omega (arith, laid_length x)));
     })
-
-pub laid_step : {d d' : List ℕ} {at i : ℕ} (text : List ℕ) → Laid d d' at (at + i) (take i text) → i < length text
-    → at + i < length d → Laid d (set d' (at + i) (get_or text i 0)) at (at + (i + 1)) (take (i + 1) text)
-laid_step {at = at} {i} text x l h =
-    let q : at + (i + 1) ≡ at + i + 1 = omega arith in
-    rw (q, add-one i, take-suc text i 0 l) (laid_next (get_or text i 0) x h)
 
 -- ---- A part that is lent on, `&mut d[at..]`
 

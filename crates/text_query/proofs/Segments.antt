@@ -124,15 +124,6 @@ segment_at s at n e h =
     let k : drop (suc (before_dot (drop at s))) (drop at s) ≡ drop (at + n + 1) s = rw (drop-drop, j) in
     record { inside = h; splits = cc; ends = cc }
 
--- The next segment of a text that ends in a dot, where n is what segment_length answers of `&s[at..]`.
-pub next_segment : (s : Str) (at n : ℕ) → n ≡ before_dot (take (length s - at) (drop at s))
-    → ends_in_dot (drop at s) ≡ true → at < length s
-    → Segment s at n
-next_segment s at n e d h =
-    let l : length (drop at s) ≡ length s - at = length-drop at s in
-    let k : n ≡ before_dot (drop at s) = rw tail_is at e in
-    segment_at s at n k (omega (arith, before_inside (drop at s) d (omega arith)))
-
 -- ---- The place of the first dot, as `position` tells it
 
 pub before_is : (s : Str) → before_dot s ≡ position_or_len (λ b. eqb b dot) s

@@ -41,19 +41,6 @@ unfolding is_empty
 empty_length [] = refl
 empty_length (b ∷ g) = sym (ne_eqb (suc (length g)) 0 (omega arith))
 
-pub survey_none : (s : Str) → Surveying s true false false 0 0 0
-survey_none s =
-    record {
-      passing = record { within = omega arith; says = refl };
-      begun = omega arith;
-      few = omega arith;
-      ends = refl;
-      empties = refl;
-      longs = refl;
-      count = omega arith;
-      scanned = omega arith;
-    }
-
 module _ {s : Str} {o e test : Bool} {n a i : ℕ} (f : Surveying s o e test n a i) where
   -- The segment from start to i is tested.
   tested : {g : Str} {rest : Query} → segments (drop a s) ≡ g ∷ rest → length g ≡ i - a
