@@ -27,15 +27,12 @@ pub struct Heap {
 }
 
 impl Heap {
-    // The empty heap.
+    // The empty heap. Links of a cell that is in no heap are not read; as zeros they are cleared with what stands beside the heap, in place.
     pub fn new() -> Heap
         ensures { Rep 0 (children result.links) (nexts result.links) result.root EmptyHeap }
     {
         Heap {
-            links: [Links {
-                child: NO_CELL,
-                next: NO_CELL,
-            }; CELLS],
+            links: [Links { child: 0, next: 0 }; CELLS],
             root: CELLS,
         }
     }
@@ -92,7 +89,7 @@ impl Heap {
     }
 
     // heap_merge_pairs, of the heaps of root `i` and of its next siblings: each two are merged, and what comes of them
-    // is put before what came of the ones before, by `next`; then all is merged, the last one first.
+    // is put before what came of the ones before, by `next`; then all is merged, the last one first. The loops go by links that they change.
     pub fn merge_pairs(
         &mut self,
         words: &[u32],
