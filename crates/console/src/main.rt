@@ -2,6 +2,7 @@
 // What the system gives and takes no contract can say: crate console_feed says what the replies are, and here its steps are fed.
 // Replies are written out before each read, so that whoever types a line sees its reply. A read or a write that fails ends the program,
 // and nothing of a partial line is executed.
+// Words and text stay two parameters: crate memory says why.
 #![tactic(auto)]
 
 ghost use Rattle.std.specs.Prelude.{◌≤◌, length};

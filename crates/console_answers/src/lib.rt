@@ -1,5 +1,6 @@
 // What the program `console` answers to a line: it is read, its call is made on a table that is sound by proof, its reply is written.
 // A line that is no form is `[bad]`, and changes nothing.
+// Words and text stay two parameters: crate memory says why.
 #![tactic(auto)]
 
 ghost use Rattle.std.specs.Prelude.{◌+◌, ◌≤◌, length};

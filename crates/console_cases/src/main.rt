@@ -1,6 +1,7 @@
 // Cases 1 to 13 of docs/REQUIREMENTS.md, and a damaged table through the total calls.
 // Cases 1 to 11 are scripts, each on a fresh table as the program `console` has it; what is written is held to the file `stdout`,
 // which is written from the requirements.
+// Words and text stay two parameters: crate memory says why.
 #![tactic(auto)]
 
 use source::{ItemKind, KindFilter, LidSymbol};

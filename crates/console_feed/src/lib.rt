@@ -1,6 +1,7 @@
 // The program `console` as steps over bytes: what is kept of the last read, the table and the next bytes go in, replies come out.
 // `main` reads bytes to the end of what is kept, and writes the replies of each step. proofs/Run.antt: whatever the reads are, the
 // replies are the session of the input's lines.
+// Words and text stay two parameters: crate memory says why.
 #![tactic(auto)]
 
 ghost use Rattle.std.specs.Prelude.{◌≤◌, length};

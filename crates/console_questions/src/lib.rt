@@ -1,4 +1,5 @@
 // The line of a question answered: a look-up or a completion of a table whose memory is sound by proof, and its reply.
+// Words and text stay two parameters: crate memory says why.
 #![tactic(auto)]
 
 ghost use Rattle.std.specs.Prelude.{◌≡◌, ◌+◌, ◌≤◌, length};

@@ -1,4 +1,5 @@
 // The line of a registration answered: its call is made on a table whose memory is sound by proof, and its reply is written.
+// Words and text stay two parameters: crate memory says why.
 #![tactic(auto)]
 
 ghost use Rattle.std.specs.Prelude.{◌+◌, ◌≤◌, length};

@@ -1,5 +1,6 @@
 // Lists of collections of the record memory: find, and the place of a key.
 // A list is the link of its first collection; the same functions serve both tables and both levels.
+// Words and text stay two parameters: crate memory says why.
 #![tactic(auto)]
 
 ghost use Rattle.std.specs.Prelude.{◌*◌, ◌≤◌, ◌<◌, length, IfSome};

@@ -1,5 +1,6 @@
 // One tree of the record memory: a key beside that of a branch, and the place of a key.
 // A tree is the link of its root; the same functions serve both tables and both levels.
+// Words and text stay two parameters: crate memory says why.
 #![tactic(auto)]
 
 ghost use Rattle.std.specs.Prelude.{◌≡◌, ◌<◌, IfSome};

@@ -1,5 +1,6 @@
 // Tries of the record memory: the walk down a query by first holders.
 // A trie is the link of its record, 0 for the empty one.
+// Words and text stay two parameters: crate memory says why.
 #![tactic(auto)]
 
 ghost use Rattle.std.specs.Prelude.{◌≡◌, true, ◌*◌, ◌<◌, ◌≤◌, length, IfSome};

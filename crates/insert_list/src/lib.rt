@@ -1,4 +1,5 @@
 // Lists of collections of the record memory: insertion, the same for both tables and both levels.
+// Words and text stay two parameters: crate memory says why.
 #![tactic(auto)]
 
 ghost use Rattle.std.specs.Prelude.{◌≡◌, ◌+◌};

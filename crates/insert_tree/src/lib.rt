@@ -1,5 +1,6 @@
 // Insertion into a tree, in place of a branch with the same key: the branches on the way down are copied.
 // The way down is noted in the records that the copies take; the way up puts each copy where its note stood.
+// Words and text stay two parameters: crate memory says why.
 #![tactic(auto)]
 
 ghost use Rattle.std.specs.Prelude.{◌+◌, ◌*◌, ◌≤◌, length};

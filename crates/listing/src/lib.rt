@@ -1,4 +1,5 @@
 // Completion on a root, of a query that is admitted: rows 9 and 10, counted before anything is written.
+// Words and text stay two parameters: crate memory says why.
 #![tactic(auto)]
 
 ghost use Rattle.std.specs.Prelude.{◌≡◌, true, [], ◌∷◌};

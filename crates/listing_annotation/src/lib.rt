@@ -1,4 +1,5 @@
 // What stands beside a found branch in a listing: its annotation, and whether a filter keeps it.
+// Words and text stay two parameters: crate memory says why.
 #![tactic(auto)]
 
 ghost use Rattle.std.specs.Prelude.{◌≡◌, ℕ, ◌*◌, ◌<◌, ◌≤◌, List, length};

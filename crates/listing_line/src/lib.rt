@@ -1,4 +1,5 @@
 // One line of a listing: counted, and written where it fits the lent output.
+// Words and text stay two parameters: crate memory says why.
 #![tactic(auto)]
 
 ghost use Rattle.std.specs.Prelude.{ℕ, ◌+◌, ◌≤◌, length};

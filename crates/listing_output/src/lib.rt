@@ -1,5 +1,6 @@
 // The writing of one line into the lent output: its candidate, its annotation, its twelve words.
 // The two lent outputs stay two parameters: behind one struct of two `&mut` each clause also has to say that its fields are still the caller's.
+// Words and text stay two parameters: crate memory says why.
 #![tactic(auto)]
 
 ghost use Rattle.std.specs.Prelude.{◌≡◌, ◌+◌, ◌*◌, ◌<◌, ◌≤◌, length};

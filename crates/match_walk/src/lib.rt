@@ -1,6 +1,7 @@
 // The branches of a tree that begin with a prefix, one after another: those still to come are noted on the way down.
 // Once the notes run out and some were dropped, the tree of the last mark is walked down again, to the branches past the last one given.
 // Where notes were dropped and no mark is left the walk starts at the root.
+// Words and text stay two parameters: crate memory says why.
 #![tactic(auto)]
 
 ghost use Rattle.std.specs.Prelude.{◌≡◌, true, ◌<◌};

@@ -1,5 +1,7 @@
 // Records in the lent words: the words by name, what a record holds as structs.
 // specs/Layout.antt has the layout, specs/Sound.antt what a right record is; crate memory_access reads and makes records.
+// The words and the text of a table stay two parameters: behind one struct each clause says `memory.entry.words.now` for `words.now`, and no
+// fact goes into the type, since what is right of a memory depends on the link; a registration lends the words to be written, the text not.
 #![tactic(auto)]
 
 // The words, kinds and limits by name.

@@ -1,5 +1,6 @@
 // The branches of a list of collections that begin with a prefix, ascending, one of each key, the first holder's.
 // Each comes with the collection that has its outermost label, 0 for none.
+// Words and text stay two parameters: crate memory says why.
 #![tactic(auto)]
 
 ghost use Rattle.std.specs.Prelude.{◌≡◌, ◌<◌, ◌≤◌, ◌*◌, length};

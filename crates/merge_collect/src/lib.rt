@@ -1,4 +1,5 @@
 // The trees of a list of collections that have a match, in flattened order, one to a cell of a merge.
+// Words and text stay two parameters: crate memory says why.
 #![tactic(auto)]
 
 ghost use Rattle.std.specs.Prelude.{◌+◌, ◌≤◌};

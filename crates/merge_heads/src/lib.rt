@@ -1,4 +1,5 @@
 // The lists of a merge, at most 96: each has a cell, with a tree, its label and its head, a branch's link. How two cells compare.
+// Words and text stay two parameters: crate memory says why.
 #![tactic(auto)]
 
 ghost use Rattle.std.specs.Prelude.{◌≡◌, ◌<◌};

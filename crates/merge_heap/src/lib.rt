@@ -1,4 +1,5 @@
 // The source's pairing heap in at most 96 cells. A cell stands for a list, whose head is a branch's link.
+// Words and text stay two parameters: crate memory says why.
 #![tactic(auto)]
 
 ghost use Rattle.std.specs.Prelude.{◌≡◌, ℕ, ◌≤◌, ◌<◌, get_or, set};

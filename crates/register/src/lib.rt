@@ -1,4 +1,5 @@
 // A registration over a header: the rows that it must pass, and what it writes.
+// Words and text stay two parameters: crate memory says why.
 #![tactic(auto)]
 
 ghost use Rattle.std.specs.Prelude.{◌≡◌, false, cond, [], ◌∷◌, ◌+◌, ◌≤◌, length};

@@ -1,4 +1,5 @@
 // The change of a trie: the source's namespaces_mutate and trie_mutate with mut_node and mut_leaf, building records after the used ones.
+// Words and text stay two parameters: crate memory says why.
 #![tactic(auto)]
 
 ghost use Rattle.std.specs.Prelude.{◌≡◌, true, ◌+◌, ◌-◌, ◌<◌, ◌≤◌, length};

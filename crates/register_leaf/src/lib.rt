@@ -1,4 +1,5 @@
 // mut_leaf of each kind of registration: what is put into the trie at the end of a query, building records after the used ones.
+// Words and text stay two parameters: crate memory says why.
 #![tactic(auto)]
 
 ghost use Rattle.std.specs.Prelude.{◌≡◌};

@@ -1,5 +1,6 @@
 // Planning: the records that a registration would build, and whether a list would be too heavy or a root too deep.
 // It goes down the host's path and reads what stands there; what the change will need of it is noted in the way.
+// Words and text stay two parameters: crate memory says why.
 #![tactic(auto)]
 
 ghost use Rattle.std.specs.Prelude.{◌≡◌, [], ◌+◌, ◌≤◌, ◌<◌, length};

@@ -1,6 +1,7 @@
 // What the exported calls share: a registration, a look-up and a completion over bytes.
 // State and words are bytes as crate memory_bytes reads them; a call copies the words in, tests them with little stack, calls crate table,
 // and copies out what an accepted registration has taken. Lines are written in place.
+// Words and text stay two parameters: crate memory says why.
 #![tactic(auto)]
 
 ghost use Rattle.std.specs.Prelude.{◌≡◌, length};

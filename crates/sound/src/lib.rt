@@ -1,4 +1,5 @@
 // Is the lent memory a sound table? One pass over the used records, each tested by what the records before it store.
+// Words and text stay two parameters: crate memory says why.
 #![tactic(auto)]
 
 ghost use Rattle.std.specs.Prelude.{◌+◌, ◌≤◌};

@@ -1,4 +1,5 @@
 // Look-up and completion in a sound memory, each on the root that is asked.
+// Words and text stay two parameters: crate memory says why.
 #![tactic(auto)]
 
 ghost use Rattle.std.specs.Prelude.{◌≡◌, true};

@@ -1,5 +1,6 @@
 // Completions that say, beside what a completion says, how long the beginning is that all its lines share.
 // The completion is crate table's; the lines that it wrote are read once.
+// Words and text stay two parameters: crate memory says why.
 #![tactic(auto)]
 
 ghost use Rattle.std.specs.Prelude.{◌≡◌};

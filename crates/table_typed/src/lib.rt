@@ -1,4 +1,5 @@
 // The typed completion: a line is a struct, and lines go into a lent slice of these.
+// Words and text stay two parameters: crate memory says why.
 #![tactic(auto)]
 
 ghost use Rattle.std.specs.Prelude.{◌≡◌, ◌+◌, ◌*◌, ◌≤◌, ◌<◌, length, set};
