@@ -36,5 +36,3 @@ module _ (d : List ℕ) (at : ℕ) (s : List ℕ) (n : ℕ) (room : at + n ≤ l
   paste_part =
       rw (append_assoc, drop_at (take at d) _ at (length-take-le at d (omega arith)))
       (take_at (take n s) _ n (length-take-le n s enough))
-
-}

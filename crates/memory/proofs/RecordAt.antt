@@ -14,5 +14,3 @@ word_at ws l k h = sym (get_or-take 12 (drop ((l - 1) * 12) ws) k 0 h ∙ get_or
 pub record_length : (ws : List ℕ) (l : ℕ) → 0 < l → l * 12 ≤ length ws → length (record_at ws l) ≡ 12
 unfolding record_at
 record_length ws l p h = length-take-le 12 (drop ((l - 1) * 12) ws) (rw length-drop (omega arith))
-
-}

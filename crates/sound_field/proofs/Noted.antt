@@ -24,8 +24,6 @@ module _ {ws : List ℕ} {notes : List Ends} {l next : ℕ} (n : CanNote ws l no
   pub far_here : next ≡ 0 → Far ws (link_word side) l l
   far_here p = let z : word (record_at ws l) (link_word side) ≡ 0 = omega (arith, e) in here {x = l} z
 
-}
-
 -- On the way from a record: the end of what is left is the end of the whole.
 pub record Going (ws : List ℕ) (k from x : ℕ) : Type 0 where
   pub some : 0 < x
