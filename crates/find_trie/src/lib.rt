@@ -35,22 +35,23 @@ pub fn trie_descend(words: &[u32], text: &[u8], root: u32, query: &[u8]) -> u32
     included
 }
 
-// The source's trie_find_exact: the branch that the walk by first holders ends at, 0 for none.
-pub fn trie_find_exact(words: &[u32], text: &[u8], root: u32, query: &[u8]) -> u32
+// The source's trie_find_exact: the branch that the walk by first holders ends at.
+pub fn trie_find_exact(words: &[u32], text: &[u8], root: u32, query: &[u8]) -> Option<u32>
     requires any_trie { AnyTrie words.now text.now root }
     requires query_value { ends_in_dot query.now ≡ true }
-    ensures { FindsExact words.now text.now root (segments query.now) result }
+    ensures nonzero { IfSome result (λ branch. 0 < branch) }
+    ensures found { FindsExact words.now text.now root (segments query.now) (unwrap_or result 0) }
 {
     let mut link = root;
     let mut left = text_query::segments_of(query);
     while let Some(segment) = left.next() {
         let t = memory_access::trie_of(words, link);
         if left.rest.is_empty() {
-            return find_list::names_find_exact(words, text, t.bindings, segment).unwrap_or(0);
+            return find_list::names_find_exact(words, text, t.bindings, segment);
         }
         link = scope_of(words, text, t.namespaces, segment);
     }
-    0
+    None
 }
 
 // Whether ins_ns inserts, where `holder` is the branch that has the name.

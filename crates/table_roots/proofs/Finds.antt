@@ -1,13 +1,13 @@
 -- A look-up: the rows of its query, and the item at its end.
-use Prim.Native.Nat.{ℕ, ◌+◌, ◌*◌, ◌<◌, ◌≤◌}
-use mathlib.Core.Path.{◌≡◌}
+use Prim.Native.Nat.{ℕ, ◌+◌, ◌<◌}
+use mathlib.Core.Path.{◌≡◌, refl}
 use mathlib.Core.Bool.{true}
 use mathlib.Core.List.{List, [], ◌∷◌}
 use mathlib.Core.Option.{none, some}
 use native.Mathlib.Omega.{arith}
 use lib.ListN.{length, length-take}
 use borrow.Author.Tests.{ne_eqb}
-use Rattle.source.specs.Text.{Str, Query, segments, ends_in_dot}
+use Rattle.source.specs.Text.{Str, segments, ends_in_dot}
 use Rattle.source.specs.Types.{Trie, bind, the_item}
 use Rattle.source.specs.Tries.{trie_find_exact}
 use Rattle.source.specs.Calls.{a_look_up, first_row, argument_rows, found, not_found, refused, found_of, look_up}
@@ -22,6 +22,9 @@ use Rattle.memory_table.specs.declared.Header.{Header}
 use Rattle.find_tree.specs.Tree.{held}
 use Rattle.find_trie.specs.Tries as T
 use Rattle.find_trie.specs.Tries.{AnyTrie, FindsExactIn}
+use Rattle.std.specs.Prelude.{Option, Some, None, Ok, IfSome}
+use Rattle.std.specs.Option.{unwrap_or}
+use Rattle.table_roots.specs.Answers.{LookedUp}
 use Rattle.listing_row.specs.Rows.{SymbolInside}
 use Rattle.listing_row.proofs.Inside.{symbol_in_inside}
 
@@ -50,10 +53,18 @@ module _ (query : Str) where
     unfolding found_of held the_item
     look_up_found z = rw (look_up_passed _ e, h.says, ne_eqb r 0 z)
 
--- The branch that is found is a record.
-pub found_fits : {ws txt : List ℕ} {root r : ℕ} {q : Query} → AnyTrie ws txt root → T.FindsExact ws txt root q r
-    → (r ≡ 0 → ⊥) → (0 < r) × (r * 12 ≤ length ws)
-found_fits a h z = (omega arith, link_fits a.trie.sound (link_later (omega (arith, a.trie.link.earlier)) (h a.which a.trie).link))
+-- What a look-up finds that passes the rows: a branch that is found is a record.
+pub looked_up : (query : Str) → first_row (argument_rows true (a_look_up query ∷ [])) ≡ none
+    → {ws txt : List ℕ} {root : ℕ}
+    → AnyTrie ws txt root → (r : Option ℕ) → IfSome r (λ branch. 0 < branch)
+    → T.FindsExact ws txt root (segments query) (unwrap_or r 0) → LookedUp ws txt root query (Ok r)
+looked_up query e a None n h = record { fits = tt; link = λ w t. tt; says = λ w t. look_up_none query e (h w t) refl }
+looked_up query e a (Some branch) n h =
+    record {
+      fits = (n, link_fits a.trie.sound (link_later (omega (arith, a.trie.link.earlier)) (h a.which a.trie).link));
+      link = λ w t. (h w t).link;
+      says = λ w t. look_up_found query e (h w t) (λ z. omega (arith, n));
+    }
 
 -- The texts of a found symbol lie in the used text.
 pub symbol_inside : {ws txt : List ℕ} {h : Header} {l : ℕ} → Sound ws txt h

@@ -24,11 +24,7 @@ fn look_up(words: &[u32], text: &[u8], root: u32, query: &[u8]) -> Result<Option
     ensures { LookedUp words.now text.now root query.now result }
 {
     refusals::admit(refusals::look_up_flags(query))?;
-    let link = find_trie::trie_find_exact(words, text, root, query);
-    if link == 0 {
-        return Ok(None);
-    }
-    Ok(Some(link))
+    Ok(find_trie::trie_find_exact(words, text, root, query))
 }
 
 // Look-up of a name: its item, if there is one.

@@ -19,11 +19,11 @@ pub names_find_exact-requires : goal.names_find_exact-requires
 names_find_exact-requires c =
     any_bindings (c.loop-segment.invariant c.requires.any_trie.which c.requires.any_trie.trie).here c.trie_of-t.ensures
 
-pub returns-then-is_empty : goal.returns-then-is_empty
-returns-then-is_empty c w t =
-    rw c.unwrap_or.ensures (found_last (c.loop-segment.invariant w t)
+pub returns-then-is_empty-clause-found : goal.returns-then-is_empty-clause-found
+returns-then-is_empty-clause-found c w t =
+    found_last (c.loop-segment.invariant w t)
     (c.in-Some.ensures.steps ∙ ap (λ q. c.in-Some.segment.now ∷ q) (at_last _ c.is_empty.ensures c.if-is_empty.true))
-    c.trie_of-t.ensures c.names_find_exact.ensures.found)
+    c.trie_of-t.ensures c.names_find_exact.ensures.found
 
 pub scope_of-link-requires : goal.scope_of-link-requires
 scope_of-link-requires c =
@@ -35,6 +35,6 @@ loop-segment-preserved c w t =
     walked_next g c.in-Some.ensures.steps (scope_below _ g.here c.trie_of-t.ensures c.scope_of-link.ensures)
     (finds_next (before_last _ c.is_empty.ensures c.if-is_empty.false))
 
-pub returns : goal.returns
-returns c w t =
+pub returns-clause-found : goal.returns-clause-found
+returns-clause-found c w t =
     found_none (c.loop-segment.invariant w t) c.in_default.ensures.steps.0
