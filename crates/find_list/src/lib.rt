@@ -8,7 +8,7 @@ ghost use Rattle.std.specs.Option.{unwrap_or};
 ghost use Rattle.source.specs.Limits.{record_words};
 ghost use Rattle.find_list.specs.Names.{AnyList, Led, Holder, NamesPlaced};
 
-// The tree that a list begins with, 0 for none, and the rest after it.
+// The tree that a list begins with, 0 for none, and the rest after it: words of the memory, walked on as such.
 #[derive(Clone, Copy)]
 pub struct Lead {
     pub tree: u32,
@@ -42,6 +42,7 @@ pub fn names_find_exact(words: &[u32], text: &[u8], list: u32, key: &[u8]) -> Op
     ensures found { Holder words.now text.now list key.now (unwrap_or result 0) }
 {
     let mut link = list;
+    // Along links of the memory, where 0 is none: no index.
     while 0 < link {
         let own = memory_access::own_of(words, link);
         let found = if memory_access::sort_of(words, link) == memory::IMPORTED {

@@ -44,6 +44,7 @@ pub fn place_of(words: &[u32], text: &[u8], root: u32, key: &[u8]) -> Place
 {
     let mut link = root;
     let mut count = 1;
+    // Down links of the memory, where 0 is none: no index.
     while 0 < link {
         match key_order(words, text, link, key) {
             Ordering::Less => {

@@ -12,7 +12,7 @@ ghost use Rattle.find_trie.specs.Tries.{AnyTrie, Scope, Included, FindsExact, Ns
 
 use memory::ModSymbol;
 
-// The trie that a list of namespaces holds at `s`, 0 for none.
+// The trie that a list of namespaces holds at `s`, 0 for none: a word of the memory, where 0 is the empty trie and no missing answer.
 fn scope_of(words: &[u32], text: &[u8], namespaces: u32, s: &[u8]) -> u32
     requires { AnyList words.now text.now namespaces }
     ensures { Scope words.now text.now namespaces s.now result }

@@ -31,7 +31,7 @@ pub struct Notes<'a> {
     pub other_namespace: &'a [u8],
 }
 
-// The collection of the outermost label of the path and the branch below it, 0 for none.
+// The collection of the outermost label of the path and the branch below it: a word of the memory, where 0 is none.
 pub fn outermost(path: &Path, label: u32) -> u32
     ensures { result ≡ outermost path.now label }
 {

@@ -1,5 +1,6 @@
 // The branches of a tree that begin with a prefix: the first one, and the one after another.
 // Each is found from the links and keys alone, so that no more than the current branch is kept.
+// The loops go down links of the memory, where 0 is none: no index.
 // Words and text stay two parameters: crate memory says why.
 #![tactic(auto)]
 

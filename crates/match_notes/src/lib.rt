@@ -1,4 +1,5 @@
 // The branches of a tree that begin with a prefix, noted on the way down to the first of them.
+// The loops go down links of the memory, where 0 is none: no index.
 // Words and text stay two parameters: crate memory says why.
 #![tactic(auto)]
 

@@ -10,7 +10,7 @@ ghost use Rattle.merge_collect.specs.Lists.{Collects};
 
 use merge_heads::{CELLS, Cell};
 
-// A list, the collection of the outermost label above it, 0 for none, and the cell of its first tree.
+// A list, the collection of the outermost label above it, and the cell of its first tree. Both links are words of the memory, where 0 is none.
 #[derive(Clone, Copy)]
 pub struct LabelledList {
     pub list: u32,

@@ -144,6 +144,7 @@ fn end_of(words: &[u32], from: u32, side: Side, notes: &[Ends]) -> u32
     ensures { Far words.now (link_word side) from result }
 {
     let mut x = from;
+    // Along links of the memory: no index.
     while notes.len() <= x as usize {
         let next = memory_access::word_of(words, x, side.word());
         if next == 0 {

@@ -22,7 +22,7 @@ pub fn kind_of(n: u32) -> ItemKind
     ItemKind::try_from(n).unwrap_or(ItemKind::Register)
 }
 
-// The letter of a kind in a script.
+// The letter of a kind in a script: a byte, where Display would write text.
 #[tactic(auto, unfolding(source::specs::Items::kind_letter))]
 pub fn letter_of(kind: ItemKind) -> u8
     ensures { result ≡ kind_letter kind }

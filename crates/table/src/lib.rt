@@ -1,5 +1,6 @@
 // The calls on a table: a header by value, with the lent words and text. Each hands the table back with its answer.
-// Each call has a form for callers that have proved the memory sound, and a total one that tests it first.
+// Each call has a form for callers that have proved the memory sound, and a total one that tests it first. The memory is lent anew at each call,
+// so that no type can carry that it is sound; what the total ones share is the test and one refusal, which a closure would not make shorter.
 // Words and text stay two parameters: crate memory says why.
 #![tactic(auto)]
 
