@@ -17,6 +17,20 @@ TOKEN = re.compile(r"b?'[^']*'|b?\"[^\"]*\"|[A-Za-z_]\w*|\d+|[^\s\w]")
 KEEP = {'fn', 'let', 'mut', 'if', 'else', 'while', 'loop', 'for', 'in', 'match', 'return', 'as', 'true', 'false', 'pub', 'break'}
 
 
+# The whole of a body, white space apart, and what kind of conversion, comparison or choice it is then.
+SMALL = [
+    ('a cast alone', r'\(?\w+( & \d+)?\)? as \w+'),
+    ('min or max', r'if (\w+) (<|<=) (\w+) \{ return (\w+); \} (\w+)'),
+    ('bool as number', r'if \w+ \{ return 1; \} 0'),
+    ('enum as bool', r'(?:let .*; )*match [^{]*\{ (?:[\w:(), _|]+ => (?:true|false),? )+\}'),
+    ('enum as number', r"match [^{]*\{ (?:[\w:(), _|]+ => (?:\d+|b'.'),? )+\}"),
+    ('number as enum', r'(?:if \w+ == \w+ \{ return [\w:()]+; \} ){2,}[\w:()]+'),
+    ('equality', r'if (\w+) == (\w+) \{ return true; \} false|(?:if .* \{ return false; \} )?\w+ < \d+|\w+\(a\) == \w+\(b\)'),
+    ('order', r'if (\w+) < (\w+) \{ return [\w:]+; \} if \1 == \2 \{ return [\w:]+; \} [\w:]+'),
+    ('saturating', r'if \w+ == 0 \{ return 0; \} \w+ - 1'),
+]
+
+
 def functions(text):
     """(line, name, comment, signature, body) of each function."""
     for m in re.finditer(r'^( *)((?:pub |unsafe |extern "C" )*)fn (\w+)', text, re.M):
@@ -56,25 +70,7 @@ def shape(body):
 def small(body):
     """The kind of conversion, comparison or choice that a whole body is, or none."""
     b = re.sub(r'\s+', ' ', re.sub(r'//.*', '', body)).strip()
-    if re.fullmatch(r'\(?\w+( & \d+)?\)? as \w+', b):
-        return 'a cast alone'
-    if re.fullmatch(r'if (\w+) (<|<=) (\w+) \{ return (\w+); \} (\w+)', b):
-        return 'min or max'
-    if re.fullmatch(r'if \w+ \{ return 1; \} 0', b):
-        return 'bool as number'
-    if re.fullmatch(r'(?:let .*; )*match [^{]*\{ (?:[\w:(), _|]+ => (?:true|false),? )+\}', b):
-        return 'enum as bool'
-    if re.fullmatch(r"match [^{]*\{ (?:[\w:(), _|]+ => (?:\d+|b'.'),? )+\}", b):
-        return 'enum as number'
-    if re.fullmatch(r'(?:if \w+ == \w+ \{ return [\w:()]+; \} ){2,}[\w:()]+', b):
-        return 'number as enum'
-    if re.fullmatch(r'if (\w+) == (\w+) \{ return true; \} false|(?:if .* \{ return false; \} )?\w+ < \d+|\w+\(a\) == \w+\(b\)', b):
-        return 'equality'
-    if re.fullmatch(r'if (\w+) < (\w+) \{ return [\w:]+; \} if \1 == \2 \{ return [\w:]+; \} [\w:]+', b):
-        return 'order'
-    if re.fullmatch(r'if \w+ == 0 \{ return 0; \} \w+ - 1', b):
-        return 'saturating'
-    return None
+    return next((kind for kind, form in SMALL if re.fullmatch(form, b)), None)
 
 
 def main():

@@ -1,11 +1,12 @@
 -- Parts of a list: where a beginning stays, the parts inside it stay; a part put into a list.
-use Prim.Native.Nat.{ℕ, zero, suc, ◌+◌, ◌-◌, ◌≤◌}
+use Prim.Native.Nat.{ℕ, zero, suc, ◌+◌, ◌-◌, ◌≤◌, ◌<◌}
 use mathlib.Core.Path.{◌≡◌, refl, sym, ap, ◌∙◌}
 use mathlib.Core.List.{List, [], ◌∷◌, append_assoc}
 use native.Mathlib.Omega.{arith}
+use native.Mathlib.Numerals.{add-one}
 use native.Mathlib.Nat.{zero-add, suc-add}
-use lib.ListN.{length, take, drop, length-drop}
-use lib.Seq.{take-take, take-nil, drop-nil, take_at, drop_at, length-take-le, paste}
+use lib.ListN.{length, get_or, set, take, drop, length-set, length-drop}
+use lib.Seq.{take-take, take-nil, drop-nil, take_at, drop_at, length-take-le, paste, paste-zero, paste-suc}
 use Rattle.memory.specs.Layout.{span}
 
 cut : (n start : ℕ) (t : List ℕ) → take n (drop start t) ≡ drop start (take (start + n) t)
@@ -36,3 +37,23 @@ module _ (d : List ℕ) (at : ℕ) (s : List ℕ) (n : ℕ) (room : at + n ≤ l
   paste_part =
       rw (append_assoc, drop_at (take at d) _ at (length-take-le at d (omega arith)))
       (take_at (take n s) _ n (length-take-le n s enough))
+
+-- A loop that puts them there has put the first i.
+pub record Pasting (d s e : List ℕ) (at i n : ℕ) : Type 0 where
+  pub below : i ≤ n
+  pub says : e ≡ paste d at s i
+  pub size : length e ≡ length d
+
+pub pasting_none : (d s : List ℕ) (at n : ℕ) → Pasting d s d at 0 n
+pasting_none d s at n = record { below = omega arith; says = paste-zero d at s; size = refl }
+
+pub pasting_more : {d s e : List ℕ} {at i n : ℕ} → n ≤ length s → at + n ≤ length d → i < n → Pasting d s e at i n
+    → Pasting d s (set e (at + i) (get_or s i 0)) at (i + 1) n
+pasting_more {d} {s} {e} {at} {i} m room h g = record {
+  below = omega arith;
+  says = rw (add-one, g.says) (paste-suc d at s i 0 (omega arith) (omega arith));
+  size = length-set e (at + i) (get_or s i 0) ∙ g.size;
+}
+
+pub pasting_done : {d s e : List ℕ} {at i n : ℕ} → Pasting d s e at i n → n ≤ i → e ≡ paste d at s n
+pasting_done {i = i} {n = n} g h = let q : i ≡ n = omega arith in rw q at g.says

@@ -67,9 +67,11 @@ pub fn row_of(words: &[u32], link: u32) -> [u32; ROW]
     requires { (0 < link) × (link * record_words ≤ length words.now) }
     ensures { result ≡ record_at words.now link }
 {
-    let start = (link as usize - 1) * ROW;
+    // Word by word: copied as one, what was just written word by word is waited for.
     let mut row = [0; ROW];
-    row.copy_from_slice(&words[start..start + ROW]);
+    for i in 0..ROW {
+        row[i] = word_of(words, link, i);
+    }
     row
 }
 
@@ -159,8 +161,11 @@ pub fn put_row(words: &mut [u32], used: u32, row: &[u32; ROW])
     requires { (used * record_words + record_words ≤ length words.old) × (length row.now ≡ record_words) }
     ensures { words.new ≡ put words.old used row.now }
 {
-    let start = used as usize * ROW;
-    words[start..start + ROW].copy_from_slice(row);
+    // Word by word, as in `row_of`.
+    let base = used as usize * ROW;
+    for i in 0..ROW {
+        words[base + i] = row[i];
+    }
 }
 
 // Writes the bytes of `s` into the text from `used` on.
@@ -168,6 +173,9 @@ pub fn put_text(text: &mut [u8], used: u32, s: &[u8])
     requires { used + length s.now ≤ length text.old }
     ensures { text.new ≡ put_text text.old used s.now }
 {
-    let start = used as usize;
-    text[start..start + s.len()].copy_from_slice(s);
+    // Byte by byte: the texts are short, and std's copy is a call.
+    let base = used as usize;
+    for i in 0..s.len() {
+        text[base + i] = s[i];
+    }
 }
