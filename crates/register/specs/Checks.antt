@@ -1,5 +1,5 @@
 -- The rows of a registration over a header.
-use Rattle.std.specs.Prelude.{ℕ, ◌≡◌, true, false, List, length, Result, Ok, Err}
+use Rattle.std.specs.Prelude.{ℕ, ◌≡◌, true, false, List, length, Result, Ok, Err, ⊤}
 use Rattle.std.proofs.Math.Option.{none, some}
 use Rattle.source.specs.Text.{Str, segments, ends_in_dot}
 use Rattle.source.specs.Calls.{Lent, malformed, first_row, registration_rows}
@@ -40,8 +40,9 @@ pub record Passes (ws txt : List ℕ) (h : Header) (k : CallKind) (host other ke
   pub leads : WayDown ws txt (which_by (shape_of k).form) k other key way.steps
       (root_at (which_by (shape_of k).form) h) (segments host)
 
--- The answer of a check: the way of one that passes, or the first row that it meets.
-abbrev pub Checks : (ws txt : List ℕ) (h : Header) (k : CallKind) (host other key : Str) → Result Way Refusal → Type 0
-Checks ws txt h k host other key (Ok way) = Passes ws txt h k host other key way
-Checks ws txt h k host other key (Err x) =
+-- The answer of a check: that it passes, or the first row that it meets.
+abbrev pub Checks : (ws txt : List ℕ) (h : Header) (k : CallKind) (host other key : Str) (way : Way) → Result ⊤ Refusal
+    → Type 0
+Checks ws txt h k host other key way (Ok x) = Passes ws txt h k host other key way
+Checks ws txt h k host other key way (Err x) =
     first_row (registration_rows true (lent ws txt) (state_of ws txt h) (call_of k host other key)) ≡ some (number x)

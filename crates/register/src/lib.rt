@@ -21,7 +21,7 @@ use refusals::{Capacity, Demand, Flags, Refusal};
 use register_change::Descent;
 use register_kind::{CallKind, Entry, Form};
 use register_leaf::Change;
-use register_way::Way;
+pub use register_way::Way;
 
 // The flags of the id, the included query or the file path.
 fn other_flags(form: Form, other: &[u8]) -> Flags
@@ -77,7 +77,8 @@ fn root_of(h: Header, form: Form) -> u32
     }
 }
 
-// Rows 2 to 8. Of a registration that passes them the answer is the included trie and the way to its host, for its writing.
+// Rows 2 to 8. Of a registration that passes them, the included trie and the way to its host are noted, for its writing.
+// The way is lent: handed back by value, the archive for C would need memmove from outside, beside memcpy and memset.
 pub fn check(
     words: &[u32],
     text: &[u8],
@@ -86,17 +87,18 @@ pub fn check(
     host: &[u8],
     other: &[u8],
     key: &[u8],
-) -> Result<Way, Refusal>
+    way: &mut Way,
+) -> Result<(), Refusal>
     requires sound { Sound words.now text.now h }
     requires no_key { NoKey entry.kind key.now }
-    ensures { Checks words.now text.now h entry.kind host.now other.now key.now result }
+    ensures { Checks words.now text.now h entry.kind host.now other.now key.now way.new result }
 {
     let kind = entry.kind;
     refusals::admit(flags_of(kind, host, other, key))?;
     let form = register_kind::shape_of(kind).form;
-    let mut way = Way::new(included(words, text, h.names, form, other));
+    way.included = included(words, text, h.names, form, other);
     let root = root_of(h, form);
-    let p = register_plan::plan_of(words, text, root, kind, host, other, key, &mut way);
+    let p = register_plan::plan_of(words, text, root, kind, host, other, key, way);
     let demand = Demand {
         crowded: p.cost.crowded,
         deep: p.deep,
@@ -110,7 +112,7 @@ pub fn check(
         used: h.text,
     };
     refusals::afford(demand, capacity)?;
-    Ok(way)
+    Ok(())
 }
 
 // Writes the texts of a registration after the used ones.

@@ -19,6 +19,7 @@ use listing_ask::Request;
 use memory::ModSymbol;
 use memory_table::Header;
 use refusals::Refusal;
+use register::Way;
 use register_kind::Entry;
 use source::LidSymbol;
 
@@ -180,12 +181,13 @@ impl Table {
         let kind = entry.kind;
         let n = register_kind::key_size(kind, key.len());
         let key = &key[..n];
-        match register::check(words, text, self.header, entry, host, other, key) {
+        let mut way = Way::new(0);
+        match register::check(words, text, self.header, entry, host, other, key, &mut way) {
             Err(x) => Answer {
                 table: self,
                 answer: Err(x),
             },
-            Ok(way) => {
+            Ok(()) => {
                 let h = register::write(words, text, self.header, entry, host, other, key, &way);
                 Answer {
                     table: Table { header: h },

@@ -15,8 +15,8 @@ returns-in_err-admit c =
     let p = err_from_is_err_and c.from_residual.result c.from_residual.ensures.1 in
     rw (p.1, p.2) (rows_refused _ _ _ (refused_lowest c.flags_of.ensures c.in_err-admit.ensures refl))
 
-pub included-requires : goal.included-requires
-included-requires c =
+pub included-way-requires : goal.included-way-requires
+included-way-requires c =
     record {
       at = names_trie c.requires.sound;
       other_value =
@@ -30,8 +30,8 @@ plan_of-p-requires c =
       at = rw (c.root_of-root.ensures, c.shape_of-form.ensures) (either_trie c.requires.sound (which_by (shape_of a.entry.kind).form));
       host_value = (call_ready a.entry.kind a.host.now a.other.now a.key.now
           (argument_rows_none _ _ (admitted_none c.flags_of.ensures c.in_ok-admit.ensures refl))).host_keeps.few;
-      carries = rw (c.root_of-root.ensures, c.new-way.ensures, ← c.shape_of-form.ensures)
-          (carries_root a.words.now a.text.now a.h c.shape_of-form.result.form a.other.now c.included.result c.included.ensures);
+      carries = rw (c.root_of-root.ensures, ← c.shape_of-form.ensures)
+          (carries_root a.words.now a.text.now a.h c.shape_of-form.result.form a.other.now c.included-way.result c.included-way.ensures);
     }
 
 pub overflow_add-demand : goal.overflow_add-demand
@@ -66,6 +66,6 @@ returns c =
           (sym (taken_all a.entry.kind a.host.now a.other.now a.key.now c.requires.no_key))
           (admitted_none c.flags_of.ensures c.in_ok-admit.ensures refl)
           ∙ sym (c.in_ok-afford.ensures);
-      carries = rw (p.way_noted.kept, c.new-way.ensures, ← c.shape_of-form.ensures) c.included.ensures;
+      carries = rw (p.way_noted.kept, ← c.shape_of-form.ensures) c.included-way.ensures;
       leads = rw (c.root_of-root.ensures, c.shape_of-form.ensures) at p.way_noted.leads;
     }
