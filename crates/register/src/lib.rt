@@ -78,7 +78,7 @@ fn root_of(h: Header, form: Form) -> u32
 }
 
 // Rows 2 to 8. Of a registration that passes them, the included trie and the way to its host are noted, for its writing.
-// The way is lent: handed back by value, the archive for C would need memmove from outside, beside memcpy and memset.
+// The way is lent: by value the compiler moves it with memmove, and an archive for C needs memcpy and memset alone.
 pub fn check(
     words: &[u32],
     text: &[u8],
