@@ -224,7 +224,8 @@ module _ {ws txt : List ℕ} {p : Str} {m : State} {child' next' : List ℕ} whe
 
   module _ {cell rest : ℕ} {m' : State} {taken : Given}
       (pop : Pops (cell_cmp ws txt m.heads) m.n m.child m.next child' next' m.root rest (Some cell)) where
-    takes_some : m'.n ≡ m.n → m'.labels ≡ m.labels → m'.last ≡ m.last → ((w : Which) (ℓ : Level) (x c : ℕ) (hh : Forest ℕ)
+    takes_some : m'.n ≡ m.n → m'.labels ≡ m.labels → m'.last ≡ m.last
+        → ((w : Which) (ℓ : Level) (x c : ℕ) (hh : Forest ℕ)
         (g : Holding ws txt w ℓ x p m (HeapOf c hh))
         → cell ≡ c → Makes m.n m.child m.next child' next' rest (others g)
         → TookCell ws txt w ℓ x p m m' taken c hh)
