@@ -126,11 +126,14 @@ module _ {ws txt : List ℕ} {p : Str} {m m' : State} {taken : Given} (takes : T
 
 -- ---- Merge::next
 
--- What is left of the entries of m after those passed over: the state m' gives them.
+-- What is left of the entries of m after those passed over: the state m' gives them. Nothing else of m is changed that a caller reads.
 pub record Passing (ws txt : List ℕ) (p : Str) (m m' : State) : Type 0 where
   pub says : (w : Which) (ℓ : Level) (x : ℕ) (es : List Entry) → Rest ws txt w ℓ x p m es
       → Rest ws txt w ℓ x p m' es
   pub fewer : left_in ws txt p m' ≤ left_in ws txt p m
+  pub n_stays : m'.n ≡ m.n
+  pub labels_stay : m'.labels ≡ m.labels
+  pub last_is : m'.last ≡ m.last
 
 module _ {ws txt : List ℕ} {p : Str} {m m' : State} (o : Passing ws txt p m m') (y : AnyRest ws txt p m) where
   abbrev now_rest : Rest ws txt y.which y.level y.link p m' y.entries
@@ -159,9 +162,9 @@ module _ {ws txt : List ℕ} {p : Str} {m m' : State} (o : Passing ws txt p m m'
         (subst (λ (s : Maybe ℕ). Last ws y.which y.level y.link s now_rest.given) (sym takes.last_is ∙ e) now_rest.last))
 
 module _ {ws txt : List ℕ} {p : Str} {m m' m'' : State} (o : Passing ws txt p m m') where
-  pub passing_end : Takes ws txt p m' m'' None → Gives ws txt p m None m''
-  passing_end takes w v x es g =
-      subst (λ (es : List Entry). GivesIn ws txt w v x p m es None m'') (sym (step_end (o.says w v x es g) takes)) tt
+  pub passing_end : (s : State) → Takes ws txt p m' m'' None → Gives ws txt p m None s
+  passing_end s takes w v x es g =
+      subst (λ (es : List Entry). GivesIn ws txt w v x p m es None s) (sym (step_end (o.says w v x es g) takes)) tt
 
   module _ {taken : Given} (takes : Takes ws txt p m' m'' (Some taken)) where
     pub passing_on : left_in ws txt p m'' < left_in ws txt p m' → {l : ℕ} → m''.last ≡ Some l
@@ -175,6 +178,9 @@ module _ {ws txt : List ℕ} {p : Str} {m m' m'' : State} (o : Passing ws txt p 
           subst (λ (es : List Entry). Rest ws txt w v x p m'' es)
           (sym (k.splits ∙ rw (again_same ws txt w v x k.entry l r.given last (rw k.branch_is at e)))) k.passed_rest;
       fewer = omega (arith, o.fewer);
+      n_stays = takes.n_stays ∙ o.n_stays;
+      labels_stay = takes.labels_stay ∙ o.labels_stay;
+      last_is = takes.last_is ∙ o.last_is;
     }
 
     pub passing_gives : ((l : ℕ) → m''.last ≡ Some l → same (key_at ws txt taken.branch) (key_at ws txt l) ≡ false)

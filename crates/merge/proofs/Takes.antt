@@ -215,7 +215,7 @@ module _ {ws txt : List ℕ} {p : Str} {m : State} {child' next' : List ℕ} whe
   pub takes_none : {r : ℕ} → Pops (cell_cmp ws txt m.heads) m.n m.child m.next child' next' m.root r None
       → Takes ws txt p m (state m.roots m.heads m.beginnings m.labels child' next' m.n r m.last) None
   unfolding heap_pop
-  takes_none {r} pop = record { took = λ w v x h g. go w v x h g.rep; last_is = refl }
+  takes_none {r} pop = record { took = λ w v x h g. go w v x h g.rep; n_stays = refl; labels_stay = refl; last_is = refl }
     where
       go : (w : Which) (ℓ : Level) (x : ℕ) (h : Heap ℕ) → Rep m.n m.child m.next m.root h
           → TookIn ws txt w ℓ x p m (state m.roots m.heads m.beginnings m.labels child' next' m.n r m.last) None h
@@ -224,13 +224,14 @@ module _ {ws txt : List ℕ} {p : Str} {m : State} {child' next' : List ℕ} whe
 
   module _ {cell rest : ℕ} {m' : State} {taken : Given}
       (pop : Pops (cell_cmp ws txt m.heads) m.n m.child m.next child' next' m.root rest (Some cell)) where
-    takes_some : m'.last ≡ m.last → ((w : Which) (ℓ : Level) (x c : ℕ) (hh : Forest ℕ)
+    takes_some : m'.n ≡ m.n → m'.labels ≡ m.labels → m'.last ≡ m.last
+        → ((w : Which) (ℓ : Level) (x c : ℕ) (hh : Forest ℕ)
         (g : Holding ws txt w ℓ x p m (HeapOf c hh))
         → cell ≡ c → Makes m.n m.child m.next child' next' rest (others g)
         → TookCell ws txt w ℓ x p m m' taken c hh)
         → Takes ws txt p m m' (Some taken)
     unfolding heap_pop
-    takes_some e f = record { took = go; last_is = e }
+    takes_some n l e f = record { took = go; n_stays = n; labels_stay = l; last_is = e }
       where
         go : (w : Which) (ℓ : Level) (x : ℕ) (h : Heap ℕ) → Holding ws txt w ℓ x p m h
             → TookIn ws txt w ℓ x p m m' (Some taken) h
@@ -287,7 +288,7 @@ module _ {ws txt : List ℕ} {p : Str} {m : State} {cell rest : ℕ} {child' nex
       → Takes ws txt p m (state (set m.roots cell 0) m.heads m.beginnings m.labels child' next' m.n rest m.last)
       (Some (record { branch = get_or m.heads cell 0; label = get_or m.labels cell 0 }))
   takes_last e =
-      takes_some k.pops refl
+      takes_some k.pops refl refl refl
       (λ w v x c hh g q made. rw q (took_last g rest child' next' made (no_first (later ws txt p (get_or m.roots c 0) (get_or m.heads c 0)) (rw q at e))))
 
   module _ {r : ℕ} (e : Some r ≡ slice_get (later ws txt p (get_or m.roots cell 0) (get_or m.heads cell 0)) 0) where
@@ -324,7 +325,7 @@ module _ {ws txt : List ℕ} {p : Str} {m : State} {cell rest : ℕ} {child' nex
         (with_beginning ws txt m.beginnings cell r) m.labels child'' next'' m.n top m.last)
         (Some (record { branch = get_or m.heads cell 0; label = get_or m.labels cell 0 }))
     takes_next {top} {child''} {next''} inserted =
-        takes_some k.pops refl
+        takes_some k.pops refl refl refl
         (λ w v x c hh g q made.
         rw q (took_next g r (later_next (cell_tree g c (below g)) p (get_or m.heads c 0) r (rw q at e)) rest top child' next' child'' next'' made
         (rw q at (inserted m.n y.holding.few popped_cell.0))))

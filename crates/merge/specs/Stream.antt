@@ -168,6 +168,11 @@ abbrev pub Gives : (ws txt : List ℕ) (p : Str) (m : State) → Answer Given �
 Gives ws txt p m r m' = (w : Which) (ℓ : Level) (x : ℕ) (es : List Entry) → Rest ws txt w ℓ x p m es
     → GivesIn ws txt w ℓ x p m es r m'
 
+-- The last branch given, once a step gives r.
+abbrev pub last_after : Answer ℕ → Answer Given → Answer ℕ
+last_after last None = last
+last_after last (Some r) = Some r.branch
+
 -- ---- One cell taken from the heap
 
 -- The least cell c is taken, its branch and its label given, and the rest of its list put back.
@@ -191,10 +196,12 @@ TookIn ws txt w ℓ x p m m' (Some r) EmptyHeap = ⊥
 TookIn ws txt w ℓ x p m m' None (HeapOf c hh) = ⊥
 TookIn ws txt w ℓ x p m m' (Some r) (HeapOf c hh) = TookCell ws txt w ℓ x p m m' r c hh
 
--- The same, for whatever heap the cells have. The last branch given stays.
+-- The same, for whatever heap the cells have. How many cells there are, their labels and the last branch given stay.
 pub record Takes (ws txt : List ℕ) (p : Str) (m m' : State) (taken : Answer Given) : Type 0 where
   pub took : (w : Which) (ℓ : Level) (x : ℕ) (h : Heap ℕ) → Holding ws txt w ℓ x p m h
       → TookIn ws txt w ℓ x p m m' taken h
+  pub n_stays : m'.n ≡ m.n
+  pub labels_stay : m'.labels ≡ m.labels
   pub last_is : m'.last ≡ m.last
 
 -- The cells have some heap.

@@ -10,7 +10,8 @@ ghost use Rattle.memory.specs.Layout.{key_at};
 ghost use Rattle.find_tree.specs.Tree.{AnyTree};
 ghost use Rattle.find_list.specs.Names.{AnyList};
 ghost use Rattle.merge.specs.Single.{Single};
-ghost use Rattle.merge.specs.Stream.{state_of, CellsReady, Takes, Begins, AnyRest, Gives};
+ghost use Rattle.merge_heads.specs.Compare.{labels};
+ghost use Rattle.merge.specs.Stream.{state_of, CellsReady, Takes, Begins, AnyRest, Gives, last_after};
 
 use merge_collect::LabelledList;
 use merge_heads::{CELLS, Cell};
@@ -107,7 +108,10 @@ impl Merge {
     // The next branch: of the branches with a key the first that the heap gives.
     pub fn next(&mut self, words: &[u32], text: &[u8], prefix: &[u8]) -> Option<Given>
         requires { AnyRest words.now text.now prefix.now (state_of self.old) }
-        ensures { Gives words.now text.now prefix.now (state_of self.old) result (state_of self.new) }
+        ensures gives { Gives words.now text.now prefix.now (state_of self.old) result (state_of self.new) }
+        ensures n_stays { self.new.n ≡ self.old.n }
+        ensures labels_stay { labels self.new.cells ≡ labels self.old.cells }
+        ensures last_is { self.new.last ≡ last_after self.old.last result }
     {
         while let Some(given) = self.take(words, text, prefix) {
             let again = match self.last {
@@ -119,6 +123,7 @@ impl Merge {
                 return Some(given);
             }
         }
+        // At the end the cells and their labels stay.
         None
     }
 }

@@ -1,6 +1,6 @@
 -- How two cells compare: by the keys of their heads, then by their priorities.
-use Prim.Native.Nat.{ℕ, ◌≤◌, ◌<◌, compare, Ordering}
-use Rattle.std.specs.Prelude.{◌≡◌, List, map, get_or, set}
+use Prim.Native.Nat.{ℕ, zero, suc, ◌≤◌, ◌<◌, compare, Ordering}
+use Rattle.std.specs.Prelude.{◌≡◌, List, ℤ, pos, negsuc, map, get_or, set}
 use Rattle.source.specs.Limits.{heaviest_list}
 use Rattle.source.specs.Text.{Str, then, string_compare}
 use Rattle.source.specs.Lists.{Run, first, priority}
@@ -52,6 +52,12 @@ pub record Heads (ws txt heads beginnings : List ℕ) (n : ℕ) : Type 0 where
 unfoldable pub cell_cmp : List ℕ → List ℕ → List ℕ → ℕ → ℕ → Ordering
 cell_cmp ws txt heads a b =
     then (string_compare (key_at ws txt (get_or heads a 0)) (key_at ws txt (get_or heads b 0))) (compare a b)
+
+-- The answer that a number gives by its sign.
+abbrev pub sign : ℤ → Ordering
+sign (negsuc k) = Ordering.lt
+sign (pos zero) = Ordering.eq
+sign (pos (suc k)) = Ordering.gt
 
 -- The cell j stands for the list r.
 pub record Stands {A : Type 0} (key : A → Str) (ws txt heads : List ℕ) (j : ℕ) (r : Run A) : Type 0 where

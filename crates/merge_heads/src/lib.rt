@@ -2,7 +2,7 @@
 // Words and text stay two parameters: crate memory says why.
 #![tactic(auto)]
 
-ghost use Rattle.std.specs.Prelude.{◌≡◌, ◌<◌};
+ghost use Rattle.std.specs.Prelude.{◌≡◌, ◌<◌, pos, ◌-ℤ◌};
 ghost use Rattle.source.specs.Limits.{heaviest_list};
 ghost use Rattle.source.specs.Text.{string_compare};
 ghost use Rattle.text.specs.Text.{ordering};
@@ -58,6 +58,15 @@ fn compare_keys(words: &[u32], text: &[u8], x: u32, y: u32) -> Ordering
     .order
 }
 
+// The signed difference of two cells' priorities, which are their places.
+#[tactic(auto, using(crate::proofs::Compare::difference_fits))]
+fn difference(a: usize, b: usize) -> i32
+    requires { (a < heaviest_list) × (b < heaviest_list) }
+    ensures { result ≡ pos a -ℤ pos b }
+{
+    a as i32 - b as i32
+}
+
 // The comparator of merge_increasing_lists_rev: by the keys of the heads, then by priority, which is a cell's place: the first holder comes first.
 // The keys are read only where their beginnings are the same.
 pub fn cell_cmp(words: &[u32], text: &[u8], cells: &[Cell; CELLS], a: usize, b: usize) -> Ordering
@@ -66,7 +75,11 @@ pub fn cell_cmp(words: &[u32], text: &[u8], cells: &[Cell; CELLS], a: usize, b: 
     ensures { ordering result ≡ cell_cmp words.now text.now (heads cells.now) a b }
 {
     match cells[a].beginning.cmp(&cells[b].beginning) {
-        Ordering::Equal => compare_keys(words, text, cells[a].head, cells[b].head).then(a.cmp(&b)),
-        unequal => unequal,
+        Ordering::Less => Ordering::Less,
+        Ordering::Equal => {
+            let place = difference(a, b).cmp(&0);
+            compare_keys(words, text, cells[a].head, cells[b].head).then(place)
+        }
+        Ordering::Greater => Ordering::Greater,
     }
 }

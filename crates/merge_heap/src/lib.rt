@@ -41,8 +41,9 @@ impl Heap {
     // Puts the heap of root `w` before the children of `v`.
     fn link(&mut self, v: usize, w: usize) -> usize
         requires { (v < heaviest_list) × (w < heaviest_list) }
-        ensures { (result ≡ v) × (children self.new.links ≡ set (children self.old.links) v w)
+        ensures links { (result ≡ v) × (children self.new.links ≡ set (children self.old.links) v w)
             × (nexts self.new.links ≡ set (nexts self.old.links) w (get_or (children self.old.links) v 0)) }
+        ensures root_stays { self.new.root ≡ self.old.root }
     {
         self.links[w].next = self.links[v].child;
         self.links[v].child = w as u8;
@@ -60,9 +61,10 @@ impl Heap {
     ) -> usize
         requires root { Root words.now text.now (heads cells.now) (beginnings cells.now) a }
         requires root_2 { Root words.now text.now (heads cells.now) (beginnings cells.now) b }
-        ensures { (n : ℕ) → n ≤ heaviest_list → Merges (cell_cmp words.now text.now (heads cells.now)) n
+        ensures merges { (n : ℕ) → n ≤ heaviest_list → Merges (cell_cmp words.now text.now (heads cells.now)) n
             (children self.old.links) (nexts self.old.links) (children self.new.links)
             (nexts self.new.links) result a b }
+        ensures root_stays { self.new.root ≡ self.old.root }
     {
         if a == CELLS {
             return b;
@@ -100,8 +102,9 @@ impl Heap {
     ) -> usize
         requires { AnyForest words.now text.now (heads cells.now) (beginnings cells.now)
             (children self.old.links) (nexts self.old.links) i }
-        ensures { (n : ℕ) → n ≤ heaviest_list → Pairs (cell_cmp words.now text.now (heads cells.now)) n
+        ensures pairs { (n : ℕ) → n ≤ heaviest_list → Pairs (cell_cmp words.now text.now (heads cells.now)) n
             (children self.old.links) (nexts self.old.links) (children self.new.links) (nexts self.new.links) result i }
+        ensures root_stays { self.new.root ≡ self.old.root }
     {
         let mut stack = CELLS;
         let mut at = i;

@@ -110,28 +110,28 @@ list_merged-next-requires t c = (merging_any c.loop-given.invariant)
 
 pub list_merged-list_branch-entered-requires : goal.list_merged-list_branch-entered-requires
 list_merged-list_branch-entered-requires t c =
-    let f = rw c.in-Some.is at c.next.ensures in (
+    let f = rw c.in-Some.is at c.next.ensures.gives in (
       omega (arith, merging_earlier c.loop-given.invariant f),
       (merging_branch c.loop-given.invariant f c.requires),
     )
 
 pub list_merged-returns-then-budget-entered : goal.list_merged-returns-then-budget-entered
 list_merged-returns-then-budget-entered t c =
-    merging_spent c.loop-given.invariant (rw c.in-Some.is at c.next.ensures)
+    merging_spent c.loop-given.invariant (rw c.in-Some.is at c.next.ensures.gives)
     c.list_branch-entered.ensures (search rules) (search rules) c.if-budget-entered.true
 
 pub list_merged-loop-given-smaller : goal.list_merged-loop-given-smaller
 list_merged-loop-given-smaller t c =
-    merging_less c.loop-given.invariant (rw c.in-Some.is at c.next.ensures)
+    merging_less c.loop-given.invariant (rw c.in-Some.is at c.next.ensures.gives)
 
 pub list_merged-loop-given-preserved : goal.list_merged-loop-given-preserved
 list_merged-loop-given-preserved t c =
-    merging_next c.loop-given.invariant (rw c.in-Some.is at c.next.ensures)
+    merging_next c.loop-given.invariant (rw c.in-Some.is at c.next.ensures.gives)
     c.list_branch-entered.ensures (search rules) (search rules)
 
 pub list_merged-returns : goal.list_merged-returns
 list_merged-returns t c =
-    merging_done c.loop-given.invariant (rw c.in_default.is at c.next.ensures)
+    merging_done c.loop-given.invariant (rw c.in_default.is at c.next.ensures.gives)
 
 -- ---- list_names
 

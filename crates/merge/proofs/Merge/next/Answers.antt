@@ -22,8 +22,8 @@ pub same_key-again-requires-clause-b_nonzero : goal.same_key-again-requires-clau
 same_key-again-requires-clause-b_nonzero c =
     passing_last c.loop-given.invariant c.requires (rw c.in-Some.is at c.take.ensures) c.in-Some-last.is
 
-pub returns-then-not-again : goal.returns-then-not-again
-returns-then-not-again c =
+pub returns-then-not-again-clause-gives : goal.returns-then-not-again-clause-gives
+returns-then-not-again-clause-gives c =
     let words = c.args.words.now in
     let text = c.args.text.now in
     let new : (l : ℕ) → c.take.new.self.last ≡ Some l
@@ -34,6 +34,14 @@ returns-then-not-again c =
       | in-None w ↦ λ l e. absurd (none-some l (sym w.in-None.is ∙ e))
     ] in
     passing_gives c.loop-given.invariant (rw c.in-Some.is at c.take.ensures) new
+
+pub returns-then-not-again-clause-n_stays : goal.returns-then-not-again-clause-n_stays
+returns-then-not-again-clause-n_stays c =
+    c.take.ensures.n_stays ∙ c.loop-given.invariant.n_stays
+
+pub returns-then-not-again-clause-labels_stay : goal.returns-then-not-again-clause-labels_stay
+returns-then-not-again-clause-labels_stay c =
+    c.take.ensures.labels_stay ∙ c.loop-given.invariant.labels_stay
 
 pub loop-given-smaller : goal.loop-given-smaller
 loop-given-smaller c =
@@ -49,6 +57,18 @@ loop-given-preserved c =
       | in-None w ↦ absurd (true≢false (sym c.if-not-again.false ∙ w.again-is))
     ]
 
-pub returns : goal.returns
-returns c =
-    passing_end c.loop-given.invariant (rw c.in_default.is at c.take.ensures)
+pub returns-clause-gives : goal.returns-clause-gives
+returns-clause-gives c =
+    passing_end c.loop-given.invariant _ (rw c.in_default.is at c.take.ensures)
+
+pub returns-clause-n_stays : goal.returns-clause-n_stays
+returns-clause-n_stays c =
+    c.take.ensures.n_stays ∙ c.loop-given.invariant.n_stays
+
+pub returns-clause-labels_stay : goal.returns-clause-labels_stay
+returns-clause-labels_stay c =
+    c.take.ensures.labels_stay ∙ c.loop-given.invariant.labels_stay
+
+pub returns-clause-last_is : goal.returns-clause-last_is
+returns-clause-last_is c =
+    c.take.ensures.last_is ∙ c.loop-given.invariant.last_is

@@ -3,8 +3,8 @@ use mathlib.Core.Path.{refl}
 use Rattle.merge_heap.proofs.LinkLists.{child_at, child_set, child_kept, next_set, next_kept}
 use Rattle.merge_heap.proofs.Heap.link.Goals as goal
 
-pub returns : goal.returns
-returns c =
+pub returns-clause-links : goal.returns-clause-links
+returns-clause-links c =
     let links = c.args.self.now.links in (
       refl,
       rw (child_set _ c.args.v c.args.w, next_kept links c.args.w _) refl,

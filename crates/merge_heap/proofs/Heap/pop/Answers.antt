@@ -27,4 +27,4 @@ merge_pairs-self-requires c =
 pub returns : goal.returns
 returns c n few =
     pop_rep _ _ _ few _ _ _ _ _ c.if-self-eq-CELLS.false
-    (rw (c.from.ensures, ← child_at c.args.self.now.links c.args.self.now.root) at (c.merge_pairs-self.ensures n few))
+    (rw (c.from.ensures, ← child_at c.args.self.now.links c.args.self.now.root) at (c.merge_pairs-self.ensures.pairs n few))
