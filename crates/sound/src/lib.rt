@@ -2,28 +2,12 @@
 // Words and text stay two parameters: crate memory says why.
 #![tactic(auto)]
 
-ghost use Rattle.std.specs.Prelude.{◌+◌, ◌≤◌};
+ghost use Rattle.std.specs.Prelude.{◌≤◌};
 ghost use Rattle.memory.specs.Sound.{Says};
 ghost use Rattle.memory_table.specs.Table.{Sound};
-ghost use Rattle.sound_field.specs.Fields.{CanNote};
-ghost use Rattle.sound.specs.Notes.{NotesOn};
 
 use memory_table::Header;
-use sound_field::{Ends, Side, Tested};
-
-// Notes the record of `link`, which is right, where the notes reach it.
-fn note(words: &[u32], link: u32, notes: &mut [Ends])
-    requires { CanNote words.now link notes.old }
-    ensures { NotesOn words.now (link + 1) notes.old notes.new }
-{
-    let at = link as usize;
-    if at < notes.len() {
-        notes[at] = Ends {
-            least: sound_field::next_end(words, link, Side::Left, notes),
-            greatest: sound_field::next_end(words, link, Side::Right, notes),
-        };
-    }
-}
+use sound_field::{Ends, Tested};
 
 // One pass over the used records, with notes for as many as are lent.
 fn pass(words: &[u32], text: &[u8], header: Header, notes: &mut [Ends]) -> bool
@@ -61,7 +45,7 @@ fn pass(words: &[u32], text: &[u8], header: Header, notes: &mut [Ends]) -> bool
         if !sound_record::record_ok(tested, notes) {
             return false;
         }
-        note(words, link, notes);
+        sound_field::note(words, link, notes);
     }
     true
 }

@@ -48,12 +48,24 @@ abbrev pub end_on : Side → Ends → ℕ
 end_on Left e = e.least
 end_on Right e = e.greatest
 
--- The notes of the records before link l, as far as they reach: where their ways by the links on either side end.
+-- The notes of the records before link l, as far as they reach: where their ways by the links on that side end.
+pub record NotedOn (ws : List ℕ) (side : Side) (l : ℕ) (notes : List Ends) : Type 0 where
+  pub far : (j : ℕ) → 0 < j → j < l → j < length notes
+      → Far ws (link_word side) j (end_on side (get_or notes j (record { least = 0; greatest = 0 })))
+
+-- The same of the links on either side.
 pub record Noted (ws : List ℕ) (l : ℕ) (notes : List Ends) : Type 0 where
   pub far : (side : Side) (j : ℕ) → 0 < j → j < l → j < length notes
       → Far ws (link_word side) j (end_on side (get_or notes j (record { least = 0; greatest = 0 })))
 
--- The record of link l can be noted next.
+-- The record of link l can be noted next, on that side.
+pub record CanNoteOn (ws : List ℕ) (side : Side) (l : ℕ) (notes : List Ends) : Type 0 where
+  pub some : 0 < l
+  pub fits : l * record_words ≤ length ws
+  pub earlier : word (record_at ws l) (link_word side) < l
+  pub noted : NotedOn ws side l notes
+
+-- The same of either side.
 pub record CanNote (ws : List ℕ) (l : ℕ) (notes : List Ends) : Type 0 where
   pub some : 0 < l
   pub fits : l * record_words ≤ length ws
@@ -65,7 +77,7 @@ pub record Ending (ws : List ℕ) (side : Side) (from : ℕ) (notes : List Ends)
   pub some : 0 < from
   pub fits : from * record_words ≤ length ws
   pub falls : (j : ℕ) → 0 < j → j ≤ from → word (record_at ws j) (link_word side) < j
-  pub noted : Noted ws (from + 1) notes
+  pub noted : NotedOn ws side (from + 1) notes
 
 -- x is on the side of y.
 abbrev pub On : Side → Str → Str → Type 0

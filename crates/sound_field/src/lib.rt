@@ -7,7 +7,7 @@ ghost use Rattle.source.specs.Rules.{Fits, ◌<ˢ◌};
 ghost use Rattle.memory.specs.Layout.{span};
 ghost use Rattle.memory.specs.Sound.{Says, LinkOk, TextOk};
 ghost use Rattle.text_query.specs.Queries.{byte_rule};
-ghost use Rattle.sound_field.specs.Fields.{link_word, other, end_on, Subtree, Far, Noted, CanNote, Ending, SaysSide};
+ghost use Rattle.sound_field.specs.Fields.{link_word, other, end_on, Subtree, Far, NotedOn, Noted, CanNoteOn, CanNote, Ending, SaysSide};
 
 use memory::Span;
 use text_query::Rule;
@@ -127,7 +127,7 @@ fn spans_less(text: &[u8], a: Span, b: Span) -> bool
 
 // Where the way from `link` by the links on a side ends: at itself, or where that of the next record does.
 pub fn next_end(words: &[u32], link: u32, side: Side, notes: &[Ends]) -> u32
-    requires { CanNote words.now link notes.now × (link < length notes.now) }
+    requires { CanNoteOn words.now side link notes.now × (link < length notes.now) }
     ensures { Far words.now (link_word side) link result }
 {
     let next = memory_access::word_of(words, link, side.word());
@@ -135,6 +135,21 @@ pub fn next_end(words: &[u32], link: u32, side: Side, notes: &[Ends]) -> u32
         return link;
     }
     notes[next as usize].on(side)
+}
+
+// Notes the record of `link`, which is right, where the notes reach it.
+pub fn note(words: &[u32], link: u32, notes: &mut [Ends])
+    requires { CanNote words.now link notes.old }
+    ensures ways_noted { Noted words.now (link + 1) notes.new }
+    ensures notes_len { length notes.new ≡ length notes.old }
+{
+    let at = link as usize;
+    if at < notes.len() {
+        notes[at] = Ends {
+            least: next_end(words, link, Side::Left, notes),
+            greatest: next_end(words, link, Side::Right, notes),
+        };
+    }
 }
 
 // Where the way from `from` by the links on a side ends. The notes have it for the records that they reach.
@@ -159,7 +174,7 @@ fn end_of(words: &[u32], from: u32, side: Side, notes: &[Ends]) -> u32
 #[inline(always)]
 pub fn side_ok(t: Tested, k: u32, side: Side, top: u32, key: Span, notes: &[Ends]) -> bool
     requires subtree { Subtree t.words.now t.text.now t.used t.link k top key.start key.len }
-    requires noted { Noted t.words.now t.link notes.now }
+    requires noted { NotedOn t.words.now (other side) t.link notes.now }
     ensures { SaysSide t.entry.words.now t.entry.text.now side k top key.start key.len result }
 {
     if top == 0 {

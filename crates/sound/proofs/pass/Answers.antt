@@ -12,7 +12,7 @@ record_ok-requires-clause-row_value c =
 pub loop-link-preserved : goal.loop-link-preserved
 loop-link-preserved c = (
   rows_more c.loop-link.invariant.0 (says_holds c.record_ok.result c.record_ok.ensures c.if-not-record_ok.false),
-  notes_next c.loop-link.invariant.1 c.note.ensures,
+  notes_next c.loop-link.invariant.1 (record { size = c.note.ensures.notes_len; noted = c.note.ensures.ways_noted }),
 )
 
 pub returns-else-not-record_ok : goal.returns-else-not-record_ok

@@ -2,6 +2,7 @@
 use Rattle.memory.specs.Sound.{BranchOk}
 use Rattle.memory.proofs.Says.{says_holds, says_fails, says_iff}
 use Rattle.memory.proofs.RecordAs.{branch_ordered}
+use Rattle.sound_field.proofs.Noted.{noted_on}
 use Rattle.sound_branch.proofs.branch_ok.Goals as goal
 
 pub returns-then-not-link_ok : goal.returns-then-not-link_ok
@@ -29,7 +30,7 @@ side_ok-requires c =
         link = (says_holds c.link_ok.result c.link_ok.ensures c.if-not-link_ok.false);
         inside = (says_holds c.text_ok.result c.text_ok.ensures c.if-not-text_ok.false).inside;
       };
-      noted = pre.noted;
+      noted = noted_on pre.noted;
     }
 
 pub returns-then-not-side_ok : goal.returns-then-not-side_ok
@@ -45,7 +46,7 @@ side_ok-requires-2 c =
         link = (says_holds c.link_ok-2.result c.link_ok-2.ensures c.if-not-link_ok-2.false);
         inside = (says_holds c.text_ok.result c.text_ok.ensures c.if-not-text_ok.false).inside;
       };
-      noted = pre.noted;
+      noted = noted_on pre.noted;
     }
 
 pub returns : goal.returns

@@ -15,7 +15,7 @@ end_of-x-requires c =
       some = omega arith;
       fits = omega (arith, q.link.earlier, q.before.fits);
       falls = rw c.other.ensures (toward_falls q.before c.args.side c.args.top q.link.earlier);
-      noted = noted_upto c.requires.noted q.link.earlier;
+      noted = rw c.other.ensures (noted_upto c.requires.noted q.link.earlier);
     }
 
 pub word_of-requires : goal.word_of-requires
