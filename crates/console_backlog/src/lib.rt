@@ -20,6 +20,7 @@ pub fn keep(input: &mut [u8], from: usize, have: usize) -> usize
 }
 
 // Whether the bytes left at the end of an input are a last line.
+#[tactic(auto, using(crate::proofs::LastLine::is_line))]
 pub fn is_line(left: &[u8]) -> bool
     ensures { LastLine result left.now }
 {

@@ -14,6 +14,7 @@ use Rattle.script.specs.declared.Question.TheVariants.{Find, Complete, Modules}
 use Rattle.script.specs.declared.Key.{Key}
 use Rattle.script.specs.declared.Key.TheVariants.{Name as NameKey, Alias as AliasKey, Import as ImportKey, Module as ModuleKey, Ask as AskKey}
 use Rattle.register_kind.specs.declared.CallKind.TheVariants as kind
+use Rattle.register_kind.specs.Shapes.{used_key}
 use Rattle.script_decimal.specs.Bytes.{Str, ◌·◌, bytes}
 use Rattle.script.specs.Script.{key, Command, name, import, alias, module_path, ask, NameLine, ImportLine, AliasLine, ModuleLine, AskLine, Spelled, Reads}
 use Rattle.script.specs.Script.{import_kind, RegistrationLine}
@@ -129,8 +130,8 @@ module _ {line begun : Str} (o : Only line NameKey) (w : line ≡ key NameKey ·
     name_no n = reads_refused o (λ c k. n k.1 k.2
         (name_id k.4 (piece_once Query stops_query p (name_piece k.4 (after (key NameKey) w k.4.spelled))).1))
 
-    pub name_yes : {id y : Str} {c : LidSymbol} → IdEnd rest id c
-        → RegistrationLine line (kind.Name c.kind c.number) host id y
+    pub name_yes : {id : Str} {c : LidSymbol} → IdEnd rest id c
+        → RegistrationLine line (kind.Name c.kind c.number) host id []
     unfolding bytes
     name_yes {id} {c = c} r = record {
       command = name host id c;
@@ -146,14 +147,21 @@ module _ {line begun : Str} (o : Only line NameKey) (w : line ≡ key NameKey ·
         };
       };
       of_kind = (refl, refl, refl);
+      key_used = refl;
     }
+
+-- An import has no key.
+import_used : (how : Import) → used_key (import_kind how) [] ≡ []
+import_used Include = refl
+import_used OpenModule = refl
+import_used OpenNamespace = refl
 
 module _ {how : Import} {line begun : Str} (o : Only line (ImportKey how))
     (w : line ≡ key (ImportKey how) · begun) where
   pub import_no : ((host q : Str) → PairEnd begun host q → ⊥) → (c : Command) → Reads line c → ⊥
   import_no n = reads_refused o (λ c k. n k.0 k.1 (import_pair k.3 (after (key (ImportKey how)) w k.3.spelled)))
 
-  pub import_yes : {host q y : Str} → PairEnd begun host q → RegistrationLine line (import_kind how) host q y
+  pub import_yes : {host q : Str} → PairEnd begun host q → RegistrationLine line (import_kind how) host q []
   import_yes {host} {q} r = record {
     command = import how host q;
     reads = record {
@@ -165,6 +173,7 @@ module _ {how : Import} {line begun : Str} (o : Only line (ImportKey how))
       };
     };
     of_kind = (refl, refl, refl);
+    key_used = import_used how;
   }
 
 module _ {line begun : Str} (o : Only line AliasKey) (w : line ≡ key AliasKey · begun) where
@@ -200,6 +209,7 @@ module _ {line begun : Str} (o : Only line AliasKey) (w : line ≡ key AliasKey 
         };
       };
       of_kind = (refl, refl, refl, refl);
+      key_used = refl;
     }
 
 module _ {loaded : Bool} {line begun : Str} (o : Only line (ModuleKey loaded))
@@ -214,7 +224,7 @@ module _ {loaded : Bool} {line begun : Str} (o : Only line (ModuleKey loaded))
         (λ c k. n k.1
         (piece_once Query stops_query p (module_piece k.3 (after (key (ModuleKey loaded)) w k.3.spelled))).1)
 
-    pub module_yes : {path y : Str} → rest ≡ path · bytes "]" → RegistrationLine line (kind.Module loaded) q path y
+    pub module_yes : {path : Str} → rest ≡ path · bytes "]" → RegistrationLine line (kind.Module loaded) q path []
     unfolding bytes
     module_yes {path} l = record {
       command = module_path loaded q path;
@@ -226,6 +236,7 @@ module _ {loaded : Bool} {line begun : Str} (o : Only line (ModuleKey loaded))
         };
       };
       of_kind = (refl, refl, refl);
+      key_used = refl;
     }
 
 module _ {what : Question} {line begun : Str} (o : Only line (AskKey what)) (w : line ≡ key (AskKey what) · begun) where

@@ -6,6 +6,7 @@ use Rattle.script_decimal.specs.Bytes.{Str, bytes, ◌·◌, All}
 use Rattle.script_decimal.specs.Items.{ItemText}
 use Rattle.register_kind.specs.declared.CallKind.{CallKind}
 use Rattle.register_kind.specs.declared.CallKind.TheVariants as kind
+use Rattle.register_kind.specs.Shapes.{used_key}
 use Rattle.script.specs.declared.Import.{Import}
 use Rattle.script.specs.declared.Import.TheVariants.{Include, OpenModule, OpenNamespace}
 use Rattle.script.specs.declared.Question.{Question}
@@ -100,11 +101,12 @@ OfKind (alias word host q) k h o y = (k ≡ kind.Alias) × (h ≡ host) × (o �
 OfKind (module_path loaded q path) k h o y = (k ≡ kind.Module loaded) × (h ≡ q) × (o ≡ path)
 OfKind (ask what q) k h o y = ⊥
 
--- The line says a registration of this kind, of these texts.
+-- The line says a registration of this kind, of these texts. The key is empty where the kind has none.
 pub record RegistrationLine (line : Str) (k : CallKind) (host other key : Str) : Type 0 where
   pub command : Command
   pub reads : Reads line command
   pub of_kind : OfKind command k host other key
+  pub key_used : used_key k key ≡ key
 
 -- The form that the line is, and its texts; or `None`, and the line is no form.
 abbrev pub Parsed : Str → Option LineForm → Type 0

@@ -12,6 +12,9 @@ use script_parts::{Pair, Tail, id_end, last_end, pair_end, piece, query_end, wor
 // The longest line that is read, without its line feed.
 const LINE_BYTES: usize = 2048;
 
+// The key of a kind that has none.
+const NO_KEY: &[u8] = b"";
+
 // The forms of a host and a query: `include`, `open m`, `open n`.
 #[derive(Clone, Copy)]
 pub enum Import {
@@ -129,7 +132,7 @@ fn name_form(line: &[u8]) -> Option<LineForm<'_>>
         kind: CallKind::Name(item.kind, item.number),
         host,
         other: id,
-        key: b"",
+        key: NO_KEY,
     })
 }
 
@@ -144,7 +147,7 @@ fn import_form(line: &[u8], how: Import) -> Option<LineForm<'_>>
         kind: import_kind(how),
         host,
         other: query,
-        key: b"",
+        key: NO_KEY,
     })
 }
 
@@ -181,7 +184,7 @@ fn module_form(line: &[u8], loaded: bool) -> Option<LineForm<'_>>
         kind: CallKind::Module(loaded),
         host: query,
         other: path,
-        key: b"",
+        key: NO_KEY,
     })
 }
 

@@ -129,7 +129,7 @@ impl Table {
         }
         Answer {
             table: self,
-            answer: Err(Refusal::Unsound),
+            answer: Err(Refusal::Unsound), // of a look-up of a name
         }
     }
 
