@@ -32,13 +32,14 @@ pub struct Notes<'a> {
 }
 
 // The collection of the outermost label of the path and the branch below it: a word of the memory, where 0 is none.
+// Of a path whose label is no word nothing is said.
 pub fn outermost(path: &Path, label: u32) -> u32
-    ensures { result ≡ outermost path.now label }
+    ensures { path.now.label ≤ 4294967295 → result ≡ outermost path.now label }
 {
     if path.n == 0 {
         return label;
     }
-    path.label
+    u32::try_from(path.label).unwrap_or(0)
 }
 
 // The label of a collection, empty for none.

@@ -58,6 +58,10 @@ module _ {ws txt : List ℕ} {want : Want} {f : Labelled} {run : Run} (o : CanLi
   pub job_ok : JobOk ws txt (job_in f.link want.matched run)
   job_ok = record { path = path_at o.path_ok; branch = branch_text o.branch_at; small = o.small }
 
+  -- The label of the path is a word.
+  pub label_word : run.path.label ≤ 4294967295
+  label_word = let a = o.path_ok.label_ok.at in omega (arith, a.link.earlier, a.sound.few)
+
   pub outermost_text : {x : ℕ} → x ≡ outermost run.path f.label → 0 < x → TextAt ws txt x
   outermost_text e h = rw e (go (eqb run.path.n 0) (rw e at h))
     where

@@ -58,7 +58,7 @@ fn put_candidate(
 {
     let mut end = at;
     for &link in &path.links[..path.n] {
-        end = put_key(words, text, link, out, end);
+        end = put_key(words, text, link as u32, out, end);
         out[end] = b'.';
         end += 1;
     }

@@ -3,13 +3,13 @@
 pub const LINKS: usize = 16;
 
 // The path to a trie: the branches of namespaces from the root on, how many they are, the bytes of their keys with a dot after each,
-// and the collection of the outermost label of the first, 0 for none.
+// and the collection of the outermost label of the first, 0 for none. Any numbers: a function that reads one requires of it what it needs.
 #[derive(Clone, Copy)]
 pub struct Path {
-    pub links: [u32; LINKS],
+    pub links: [usize; LINKS],
     pub n: usize,
     pub len: usize,
-    pub label: u32,
+    pub label: usize,
 }
 
 // What a completion has taken: tries entered, lines, bytes.

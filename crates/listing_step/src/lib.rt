@@ -60,7 +60,7 @@ pub fn begin(tally: &mut Tally)
 pub struct Before {
     pub n: usize,
     pub len: usize,
-    pub label: u32,
+    pub label: usize,
 }
 
 // Puts a branch of namespaces onto the path. The answer is for `leave`.
@@ -75,8 +75,10 @@ pub fn enter(words: &[u32], found: Labelled, path: &mut Path) -> Before
         len: path.len,
         label: path.label,
     };
-    path.label = listing_annotation::outermost(path, found.label);
-    path.links[path.n] = found.link;
+    if path.n == 0 {
+        path.label = found.label as usize;
+    }
+    path.links[path.n] = found.link as usize;
     path.n += 1;
     path.len += memory_access::text_len(words, found.link) as usize + 1;
     before
