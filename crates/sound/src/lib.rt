@@ -2,12 +2,28 @@
 // Words and text stay two parameters: crate memory says why.
 #![tactic(auto)]
 
-ghost use Rattle.std.specs.Prelude.{◌≤◌};
+ghost use Rattle.std.specs.Prelude.{◌≡◌, ◌+◌, ◌≤◌, length};
 ghost use Rattle.memory.specs.Sound.{Says};
 ghost use Rattle.memory_table.specs.Table.{Sound};
+ghost use Rattle.sound_field.specs.Fields.{Noted, CanNote};
 
 use memory_table::Header;
-use sound_field::{Ends, Tested};
+use sound_field::{Ends, Side, Tested};
+
+// Notes the record of `link`, which is right, where the notes reach it.
+pub fn note(words: &[u32], link: u32, notes: &mut [Ends])
+    requires { CanNote words.now link notes.old }
+    ensures ways_noted { Noted words.now (link + 1) notes.new }
+    ensures notes_len { length notes.new ≡ length notes.old }
+{
+    let at = link as usize;
+    if at < notes.len() {
+        notes[at] = Ends {
+            least: sound_field::next_end(words, link, Side::Left, notes),
+            greatest: sound_field::next_end(words, link, Side::Right, notes),
+        };
+    }
+}
 
 // One pass over the used records, with notes for as many as are lent.
 fn pass(words: &[u32], text: &[u8], header: Header, notes: &mut [Ends]) -> bool
@@ -45,7 +61,7 @@ fn pass(words: &[u32], text: &[u8], header: Header, notes: &mut [Ends]) -> bool
         if !sound_record::record_ok(tested, notes) {
             return false;
         }
-        sound_field::note(words, link, notes);
+        note(words, link, notes);
     }
     true
 }

@@ -137,21 +137,6 @@ pub fn next_end(words: &[u32], link: u32, side: Side, notes: &[Ends]) -> u32
     notes[next as usize].on(side)
 }
 
-// Notes the record of `link`, which is right, where the notes reach it.
-pub fn note(words: &[u32], link: u32, notes: &mut [Ends])
-    requires { CanNote words.now link notes.old }
-    ensures ways_noted { Noted words.now (link + 1) notes.new }
-    ensures notes_len { length notes.new ≡ length notes.old }
-{
-    let at = link as usize;
-    if at < notes.len() {
-        notes[at] = Ends {
-            least: next_end(words, link, Side::Left, notes),
-            greatest: next_end(words, link, Side::Right, notes),
-        };
-    }
-}
-
 // Where the way from `from` by the links on a side ends. The notes have it for the records that they reach.
 #[inline(always)]
 fn end_of(words: &[u32], from: u32, side: Side, notes: &[Ends]) -> u32

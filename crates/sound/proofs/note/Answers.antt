@@ -1,6 +1,6 @@
--- `sound_field::note` meets its contract.
+-- `sound::note` meets its contract.
 use Rattle.sound_field.proofs.Noted.{can_note_on}
-use Rattle.sound_field.proofs.note.Goals as goal
+use Rattle.sound.proofs.note.Goals as goal
 
 pub next_end-requires : goal.next_end-requires
 next_end-requires c =
