@@ -7,7 +7,7 @@ ghost use Rattle.source.specs.Rules.{Fits, ◌<ˢ◌};
 ghost use Rattle.memory.specs.Layout.{span};
 ghost use Rattle.memory.specs.Sound.{Says, LinkOk, TextOk};
 ghost use Rattle.text_query.specs.Queries.{byte_rule};
-ghost use Rattle.sound_field.specs.Fields.{link_word, other, end_on, Subtree, Far, NotedOn, Noted, CanNoteOn, CanNote, Ending, SaysSide};
+ghost use Rattle.sound_field.specs.Fields.{link_word, other, end_on, Subtree, Far, NotedOn, CanNoteOn, Ending, SaysSide};
 
 use memory::Span;
 use text_query::Rule;
