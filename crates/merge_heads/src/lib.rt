@@ -75,11 +75,10 @@ pub fn cell_cmp(words: &[u32], text: &[u8], cells: &[Cell; CELLS], a: usize, b: 
     ensures { ordering result ≡ cell_cmp words.now text.now (heads cells.now) a b }
 {
     match cells[a].beginning.cmp(&cells[b].beginning) {
-        Ordering::Less => Ordering::Less,
         Ordering::Equal => {
             let place = difference(a, b).cmp(&0);
             compare_keys(words, text, cells[a].head, cells[b].head).then(place)
         }
-        Ordering::Greater => Ordering::Greater,
+        unequal => unequal,
     }
 }
