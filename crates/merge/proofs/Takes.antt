@@ -29,7 +29,7 @@ use Rattle.find_tree.specs.Links.{branches, BranchOf}
 use Rattle.std.specs.Prelude.{slice_get}
 use Rattle.merge_collect.proofs.Collected.{no_first}
 use Rattle.find_list.specs.Entries.{Entry, entry_key}
-use Rattle.merge.specs.Stream.{later, run_at, left, Holding, State, state, TookCell, TookIn, Takes, CellsReady}
+use Rattle.merge.specs.Stream.{later, run_at, left, Holding, State, state, labelled, relabelled, CellLabel, TookCell, TookIn, Takes, CellsReady}
 use Rattle.merge.specs.declared.Given.{Given}
 use Rattle.merge.proofs.Cells.{Next, later_next, branch_head, cell_tree, next_branch, cell_stands, remaining_less}
 use Rattle.memory.proofs.At.{no_link}
@@ -77,7 +77,7 @@ module _ {ws txt : List ℕ} {w : Which} {ℓ : Level} {x : ℕ} {p : Str} {m : 
 
     took_last : TookCell ws txt w ℓ x p m
         (state (set m.roots c 0) m.heads m.beginnings m.labels child' next' m.n rest m.last)
-        (record { branch = get_or m.heads c 0; label = get_or m.labels c 0 }) c hh
+        (record { branch = get_or m.heads c 0; label = get_or m.labels c 0; cell = c }) c hh
     unfolding left
     took_last = record {
       below = below;
@@ -149,7 +149,7 @@ module _ {ws txt : List ℕ} {w : Which} {ℓ : Level} {x : ℕ} {p : Str} {m : 
     took_next : TookCell ws txt w ℓ x p m
         (state m.roots (set m.heads c r)
         (with_beginning ws txt m.beginnings c r) m.labels child'' next'' m.n top m.last)
-        (record { branch = get_or m.heads c 0; label = get_or m.labels c 0 }) c hh
+        (record { branch = get_or m.heads c 0; label = get_or m.labels c 0; cell = c }) c hh
     unfolding left heap_insert
     took_next =
         let q = inserted others made.rep free in
@@ -215,28 +215,38 @@ module _ {ws txt : List ℕ} {p : Str} {m : State} {child' next' : List ℕ} whe
   pub takes_none : {r : ℕ} → Pops (cell_cmp ws txt m.heads) m.n m.child m.next child' next' m.root r None
       → Takes ws txt p m (state m.roots m.heads m.beginnings m.labels child' next' m.n r m.last) None
   unfolding heap_pop
-  takes_none {r} pop = record { took = λ w v x h g. go w v x h g.rep; n_stays = refl; labels_stay = refl; last_is = refl }
+  takes_none {r} pop = record {
+    took = λ labels w v x h g. go labels w v x h g.rep;
+    label_is = tt;
+    n_stays = refl;
+    labels_stay = refl;
+    last_is = refl;
+  }
     where
-      go : (w : Which) (ℓ : Level) (x : ℕ) (h : Heap ℕ) → Rep m.n m.child m.next m.root h
-          → TookIn ws txt w ℓ x p m (state m.roots m.heads m.beginnings m.labels child' next' m.n r m.last) None h
-      go w ℓ x EmptyHeap s = tt
-      go w ℓ x (HeapOf c hh) s = absurd (pop (HeapOf c hh) s)
+      go : (labels : List ℕ) (w : Which) (ℓ : Level) (x : ℕ) (h : Heap ℕ) → Rep m.n m.child m.next m.root h
+          → TookIn ws txt w ℓ x p (labelled labels m)
+          (state m.roots m.heads m.beginnings labels child' next' m.n r m.last) None h
+      go labels w ℓ x EmptyHeap s = tt
+      go labels w ℓ x (HeapOf c hh) s = absurd (pop (HeapOf c hh) s)
 
   module _ {cell rest : ℕ} {m' : State} {taken : Given}
       (pop : Pops (cell_cmp ws txt m.heads) m.n m.child m.next child' next' m.root rest (Some cell)) where
-    takes_some : m'.n ≡ m.n → m'.labels ≡ m.labels → m'.last ≡ m.last
-        → ((w : Which) (ℓ : Level) (x c : ℕ) (hh : Forest ℕ)
-        (g : Holding ws txt w ℓ x p m (HeapOf c hh))
+    takes_some : CellLabel m.labels (Some taken) → m'.n ≡ m.n → m'.labels ≡ m.labels → m'.last ≡ m.last
+        → ((labels : List ℕ) (w : Which) (ℓ : Level) (x c : ℕ) (hh : Forest ℕ)
+        (g : Holding ws txt w ℓ x p (labelled labels m) (HeapOf c hh))
         → cell ≡ c → Makes m.n m.child m.next child' next' rest (others g)
-        → TookCell ws txt w ℓ x p m m' taken c hh)
+        → TookCell ws txt w ℓ x p (labelled labels m) (labelled labels m')
+        (record { branch = taken.branch; label = get_or labels taken.cell 0; cell = taken.cell }) c hh)
         → Takes ws txt p m m' (Some taken)
     unfolding heap_pop
-    takes_some n l e f = record { took = go; n_stays = n; labels_stay = l; last_is = e }
+    takes_some i n l e f = record { took = go; label_is = i; n_stays = n; labels_stay = l; last_is = e }
       where
-        go : (w : Which) (ℓ : Level) (x : ℕ) (h : Heap ℕ) → Holding ws txt w ℓ x p m h
-            → TookIn ws txt w ℓ x p m m' (Some taken) h
-        go w ℓ x EmptyHeap g = absurd (pop EmptyHeap g.rep)
-        go w ℓ x (HeapOf c hh) g = let q = pop (HeapOf c hh) g.rep in f w ℓ x c hh g q.0 q.1
+        go : (labels : List ℕ) (w : Which) (ℓ : Level) (x : ℕ) (h : Heap ℕ)
+            → Holding ws txt w ℓ x p (labelled labels m) h
+            → TookIn ws txt w ℓ x p (labelled labels m) (labelled labels m')
+            (relabelled labels (Some taken)) h
+        go labels w ℓ x EmptyHeap g = absurd (pop EmptyHeap g.rep)
+        go labels w ℓ x (HeapOf c hh) g = let q = pop (HeapOf c hh) g.rep in f labels w ℓ x c hh g q.0 q.1
 
 -- ---- What take answers, and what its calls ask, once the heap gave the cell
 
@@ -260,8 +270,7 @@ module _ {ws txt : List ℕ} {p : Str} {m : State} {cell rest : ℕ} {child' nex
   abbrev y : CellsReady ws txt p m
   y = k.ready
 
-  abbrev g : Holding ws txt y.which y.level y.link p
-      m y.heap
+  abbrev g : Holding ws txt y.which y.level y.link p (labelled y.labels m) y.heap
   g = y.holding
 
   popped_cell : (cell < m.n) × ((rest ≡ 96 → ⊥) → rest < m.n) × (0 < get_or m.roots cell 0)
@@ -286,10 +295,11 @@ module _ {ws txt : List ℕ} {p : Str} {m : State} {cell rest : ℕ} {child' nex
 
   pub takes_last : None ≡ slice_get (later ws txt p (get_or m.roots cell 0) (get_or m.heads cell 0)) 0
       → Takes ws txt p m (state (set m.roots cell 0) m.heads m.beginnings m.labels child' next' m.n rest m.last)
-      (Some (record { branch = get_or m.heads cell 0; label = get_or m.labels cell 0 }))
+      (Some (record { branch = get_or m.heads cell 0; label = get_or m.labels cell 0; cell = cell }))
   takes_last e =
-      takes_some k.pops refl refl refl
-      (λ w v x c hh g q made. rw q (took_last g rest child' next' made (no_first (later ws txt p (get_or m.roots c 0) (get_or m.heads c 0)) (rw q at e))))
+      takes_some k.pops (cell_small, refl) refl refl refl
+      (λ labels w v x c hh g q made.
+      rw q (took_last g rest child' next' made (no_first (later ws txt p (get_or m.roots c 0) (get_or m.heads c 0)) (rw q at e))))
 
   module _ {r : ℕ} (e : Some r ≡ slice_get (later ws txt p (get_or m.roots cell 0) (get_or m.heads cell 0)) 0) where
     pub next_in : TextIn ws txt r × (cell < 96)
@@ -323,9 +333,9 @@ module _ {ws txt : List ℕ} {p : Str} {m : State} {cell rest : ℕ} {child' nex
         → Takes ws txt p m
         (state m.roots (set m.heads cell r)
         (with_beginning ws txt m.beginnings cell r) m.labels child'' next'' m.n top m.last)
-        (Some (record { branch = get_or m.heads cell 0; label = get_or m.labels cell 0 }))
+        (Some (record { branch = get_or m.heads cell 0; label = get_or m.labels cell 0; cell = cell }))
     takes_next {top} {child''} {next''} inserted =
-        takes_some k.pops refl refl refl
-        (λ w v x c hh g q made.
+        takes_some k.pops (cell_small, refl) refl refl refl
+        (λ labels w v x c hh g q made.
         rw q (took_next g r (later_next (cell_tree g c (below g)) p (get_or m.heads c 0) r (rw q at e)) rest top child' next' child'' next'' made
         (rw q at (inserted m.n y.holding.few popped_cell.0))))

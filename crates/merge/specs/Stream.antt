@@ -61,6 +61,20 @@ state_of m =
 abbrev pub given_last : State → ℕ → State
 given_last m l = state m.roots m.heads m.beginnings m.labels m.child m.next m.n m.root (Some l)
 
+-- The same state, but with these labels.
+abbrev pub labelled : List ℕ → State → State
+labelled labels m = state m.roots m.heads m.beginnings labels m.child m.next m.n m.root m.last
+
+-- What is given, but with its cell's label of these.
+abbrev pub relabelled : List ℕ → Answer Given → Answer Given
+relabelled labels None = None
+relabelled labels (Some r) = Some (record { branch = r.branch; label = get_or labels r.cell 0; cell = r.cell })
+
+-- What is given is of a cell, and has its cell's label of these.
+abbrev pub CellLabel : List ℕ → Answer Given → Type 0
+CellLabel labels None = Unit
+CellLabel labels (Some r) = (r.cell < heaviest_list) × (r.label ≡ get_or labels r.cell 0)
+
 -- The matches of a tree after a branch.
 abbrev pub later : (ws txt : List ℕ) (p : Str) (root head : ℕ) → List ℕ
 later ws txt p root head = after (key_at ws txt) (key_at ws txt head) (matches ws txt root p)
@@ -129,6 +143,11 @@ pub record AnyRest (ws txt : List ℕ) (p : Str) (m : State) : Type 0 where
   pub entries : List Entry
   pub rest : Rest ws txt which level link p m entries
 
+-- The cells, with some labels, still give some entries.
+pub record Stands (ws txt : List ℕ) (p : Str) (m : State) : Type 0 where
+  pub labels : List ℕ
+  pub any : AnyRest ws txt p (labelled labels m)
+
 -- At the start the entries show what is found.
 pub record StartIn (ws txt : List ℕ) (w : Which) (ℓ : Level) (x : ℕ) (p : Str) (m : State) : Type 0 where
   pub entries : List Entry
@@ -168,6 +187,11 @@ abbrev pub Gives : (ws txt : List ℕ) (p : Str) (m : State) → Answer Given �
 Gives ws txt p m r m' = (w : Which) (ℓ : Level) (x : ℕ) (es : List Entry) → Rest ws txt w ℓ x p m es
     → GivesIn ws txt w ℓ x p m es r m'
 
+-- The next entry is given, whatever the labels.
+abbrev pub Steps : (ws txt : List ℕ) (p : Str) (m : State) → Answer Given → State → Type 0
+Steps ws txt p m r m' = (labels : List ℕ)
+    → Gives ws txt p (labelled labels m) (relabelled labels r) (labelled labels m')
+
 -- The last branch given, once a step gives r.
 abbrev pub last_after : Answer ℕ → Answer Given → Answer ℕ
 last_after last None = last
@@ -196,21 +220,24 @@ TookIn ws txt w ℓ x p m m' (Some r) EmptyHeap = ⊥
 TookIn ws txt w ℓ x p m m' None (HeapOf c hh) = ⊥
 TookIn ws txt w ℓ x p m m' (Some r) (HeapOf c hh) = TookCell ws txt w ℓ x p m m' r c hh
 
--- The same, for whatever heap the cells have. How many cells there are, their labels and the last branch given stay.
+-- The same, for any labels and whatever heap the cells have. How many cells there are, their labels and the last branch given stay.
 pub record Takes (ws txt : List ℕ) (p : Str) (m m' : State) (taken : Answer Given) : Type 0 where
-  pub took : (w : Which) (ℓ : Level) (x : ℕ) (h : Heap ℕ) → Holding ws txt w ℓ x p m h
-      → TookIn ws txt w ℓ x p m m' taken h
+  pub took : (labels : List ℕ) (w : Which) (ℓ : Level) (x : ℕ) (h : Heap ℕ)
+      → Holding ws txt w ℓ x p (labelled labels m) h
+      → TookIn ws txt w ℓ x p (labelled labels m) (labelled labels m') (relabelled labels taken) h
+  pub label_is : CellLabel m.labels taken
   pub n_stays : m'.n ≡ m.n
   pub labels_stay : m'.labels ≡ m.labels
   pub last_is : m'.last ≡ m.last
 
--- The cells have some heap.
+-- The cells, with some labels, have some heap.
 pub record CellsReady (ws txt : List ℕ) (p : Str) (m : State) : Type 0 where
+  pub labels : List ℕ
   pub which : Which
   pub level : Level
   pub link : ℕ
   pub heap : Heap ℕ
-  pub holding : Holding ws txt which level link p m heap
+  pub holding : Holding ws txt which level link p (labelled labels m) heap
 
 -- ---- The start
 

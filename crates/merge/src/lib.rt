@@ -11,17 +11,18 @@ ghost use Rattle.find_tree.specs.Tree.{AnyTree};
 ghost use Rattle.find_list.specs.Names.{AnyList};
 ghost use Rattle.merge.specs.Single.{Single};
 ghost use Rattle.merge_heads.specs.Compare.{labels};
-ghost use Rattle.merge.specs.Stream.{state_of, CellsReady, Takes, Begins, AnyRest, Gives, last_after};
+ghost use Rattle.merge.specs.Stream.{state_of, CellsReady, Takes, Begins, Stands, Steps, CellLabel, last_after};
 
 use merge_collect::LabelledList;
 use merge_heads::{CELLS, Cell};
 use merge_heap::Heap;
 
-// A branch that is given, and the collection of its outermost label, 0 for none.
+// A branch that is given, the collection of its outermost label, 0 for none, and the cell that it is of.
 #[derive(Clone, Copy)]
 pub struct Given {
     pub branch: u32,
     pub label: u32,
+    pub cell: usize,
 }
 
 // A merge: its cells, how many have a tree, the heap of those that have a branch left, and the last branch given.
@@ -102,13 +103,15 @@ impl Merge {
         Some(Given {
             branch: cell.head,
             label: cell.label,
+            cell: least,
         })
     }
 
     // The next branch: of the branches with a key the first that the heap gives.
     pub fn next(&mut self, words: &[u32], text: &[u8], prefix: &[u8]) -> Option<Given>
-        requires { AnyRest words.now text.now prefix.now (state_of self.old) }
-        ensures gives { Gives words.now text.now prefix.now (state_of self.old) result (state_of self.new) }
+        requires { Stands words.now text.now prefix.now (state_of self.old) }
+        ensures gives { Steps words.now text.now prefix.now (state_of self.old) result (state_of self.new) }
+        ensures label_is { CellLabel (labels self.old.cells) result }
         ensures n_stays { self.new.n ≡ self.old.n }
         ensures labels_stay { labels self.new.cells ≡ labels self.old.cells }
         ensures last_is { self.new.last ≡ last_after self.old.last result }

@@ -2,6 +2,7 @@ use Rattle.std.proofs.Common.{arith, rules, refl}
 use Rattle.find_tree.proofs.Branches.{any_tree}
 use Rattle.memory.proofs.At.{at_fits}
 use Rattle.merge.proofs.OneTree.{single_one}
+use Rattle.merge.proofs.Rest.{any_stands, steps_give}
 use Rattle.listing_line.proofs.Run.{same_run}
 use Rattle.listing_trie.proofs.Branch.{leaf_runs, line_ready, branch_named, space_at, below_ready, child_earlier, namespace_ready}
 use Rattle.listing_trie.proofs.Branch.{namespace_runs}
@@ -106,32 +107,37 @@ pub list_merged-loop-given-init : goal.list_merged-loop-given-init
 list_merged-loop-given-init t c = merging_first c.requires c.start.ensures.starts
 
 pub list_merged-next-requires : goal.list_merged-next-requires
-list_merged-next-requires t c = (merging_any c.loop-given.invariant)
+list_merged-next-requires t c = any_stands (merging_any c.loop-given.invariant)
 
 pub list_merged-list_branch-entered-requires : goal.list_merged-list_branch-entered-requires
 list_merged-list_branch-entered-requires t c =
-    let f = rw c.in-Some.is at c.next.ensures.gives in (
+    let n = c.next.ensures in
+    let f = rw c.in-Some.is at (steps_give _ n.gives n.label_is n.labels_stay) in (
       omega (arith, merging_earlier c.loop-given.invariant f),
       (merging_branch c.loop-given.invariant f c.requires),
     )
 
 pub list_merged-returns-then-budget-entered : goal.list_merged-returns-then-budget-entered
 list_merged-returns-then-budget-entered t c =
-    merging_spent c.loop-given.invariant (rw c.in-Some.is at c.next.ensures.gives)
+    let n = c.next.ensures in
+    merging_spent c.loop-given.invariant (rw c.in-Some.is at (steps_give _ n.gives n.label_is n.labels_stay))
     c.list_branch-entered.ensures (search rules) (search rules) c.if-budget-entered.true
 
 pub list_merged-loop-given-smaller : goal.list_merged-loop-given-smaller
 list_merged-loop-given-smaller t c =
-    merging_less c.loop-given.invariant (rw c.in-Some.is at c.next.ensures.gives)
+    let n = c.next.ensures in
+    merging_less c.loop-given.invariant (rw c.in-Some.is at (steps_give _ n.gives n.label_is n.labels_stay))
 
 pub list_merged-loop-given-preserved : goal.list_merged-loop-given-preserved
 list_merged-loop-given-preserved t c =
-    merging_next c.loop-given.invariant (rw c.in-Some.is at c.next.ensures.gives)
+    let n = c.next.ensures in
+    merging_next c.loop-given.invariant (rw c.in-Some.is at (steps_give _ n.gives n.label_is n.labels_stay))
     c.list_branch-entered.ensures (search rules) (search rules)
 
 pub list_merged-returns : goal.list_merged-returns
 list_merged-returns t c =
-    merging_done c.loop-given.invariant (rw c.in_default.is at c.next.ensures.gives)
+    let n = c.next.ensures in
+    merging_done c.loop-given.invariant (rw c.in_default.is at (steps_give _ n.gives n.label_is n.labels_stay))
 
 -- ---- list_names
 

@@ -6,7 +6,8 @@ use Rattle.std.proofs.Common.{Some}
 use Rattle.std.proofs.lemmas.Option.{none-some, same_Some}
 use Rattle.source.specs.Shared.{same}
 use Rattle.memory.specs.Layout.{key_at}
-use Rattle.merge.proofs.Steps.{passing_ready, passing_end, passing_fewer, passing_branch, passing_last, passing_on, passing_gives}
+use Rattle.merge.specs.Stream.{state_of}
+use Rattle.merge.proofs.Steps.{passing_ready, passing_end, passing_fewer, passing_branch, passing_last, passing_on, passing_gives, passing_label}
 use Rattle.merge.proofs.Merge.next.Goals as goal
 use Rattle.merge.proofs.Merge.next.Goals.{in-Some-last, in-None}
 
@@ -35,6 +36,10 @@ returns-then-not-again-clause-gives c =
     ] in
     passing_gives c.loop-given.invariant (rw c.in-Some.is at c.take.ensures) new
 
+pub returns-then-not-again-clause-label_is : goal.returns-then-not-again-clause-label_is
+returns-then-not-again-clause-label_is c =
+    passing_label c.loop-given.invariant (rw c.in-Some.is at c.take.ensures)
+
 pub returns-then-not-again-clause-n_stays : goal.returns-then-not-again-clause-n_stays
 returns-then-not-again-clause-n_stays c =
     c.take.ensures.n_stays ∙ c.loop-given.invariant.n_stays
@@ -59,7 +64,7 @@ loop-given-preserved c =
 
 pub returns-clause-gives : goal.returns-clause-gives
 returns-clause-gives c =
-    passing_end c.loop-given.invariant _ (rw c.in_default.is at c.take.ensures)
+    passing_end c.loop-given.invariant (state_of c.take.new.self) (rw c.in_default.is at c.take.ensures)
 
 pub returns-clause-n_stays : goal.returns-clause-n_stays
 returns-clause-n_stays c =
