@@ -29,7 +29,7 @@ use Rattle.find_tree.specs.Links.{branches, BranchOf}
 use Rattle.std.specs.Prelude.{slice_get}
 use Rattle.merge_collect.proofs.Collected.{no_first}
 use Rattle.find_list.specs.Entries.{Entry, entry_key}
-use Rattle.merge.specs.Stream.{later, run_at, left, Holding, State, state, labelled, relabelled, CellLabel, TookCell, TookIn, Takes, CellsReady}
+use Rattle.merge.specs.Stream.{later, run_at, left, Holding, State, state, labelled, relabelled, CellLabel, TookCell, TookIn, TakesAll, CellsStand}
 use Rattle.merge.specs.declared.Given.{Given}
 use Rattle.merge.proofs.Cells.{Next, later_next, branch_head, cell_tree, next_branch, cell_stands, remaining_less}
 use Rattle.memory.proofs.At.{no_link}
@@ -213,7 +213,7 @@ module _ {ws txt : List ℕ} {w : Which} {ℓ : Level} {x : ℕ} {p : Str} {m : 
 -- ---- What take answers
 module _ {ws txt : List ℕ} {p : Str} {m : State} {child' next' : List ℕ} where
   pub takes_none : {r : ℕ} → Pops (cell_cmp ws txt m.heads) m.n m.child m.next child' next' m.root r None
-      → Takes ws txt p m (state m.roots m.heads m.beginnings m.labels child' next' m.n r m.last) None
+      → TakesAll ws txt p m (state m.roots m.heads m.beginnings m.labels child' next' m.n r m.last) None
   unfolding heap_pop
   takes_none {r} pop = record {
     took = λ labels w v x h g. go labels w v x h g.rep;
@@ -237,7 +237,7 @@ module _ {ws txt : List ℕ} {p : Str} {m : State} {child' next' : List ℕ} whe
         → cell ≡ c → Makes m.n m.child m.next child' next' rest (others g)
         → TookCell ws txt w ℓ x p (labelled labels m) (labelled labels m')
         (record { branch = taken.branch; label = get_or labels taken.cell 0; cell = taken.cell }) c hh)
-        → Takes ws txt p m m' (Some taken)
+        → TakesAll ws txt p m m' (Some taken)
     unfolding heap_pop
     takes_some i n l e f = record { took = go; label_is = i; n_stays = n; labels_stay = l; last_is = e }
       where
@@ -251,12 +251,12 @@ module _ {ws txt : List ℕ} {p : Str} {m : State} {child' next' : List ℕ} whe
 -- ---- What take answers, and what its calls ask, once the heap gave the cell
 
 pub record Least-cell (ws txt : List ℕ) (p : Str) (m : State) (child' next' : List ℕ) (cell rest : ℕ) : Type 0 where
-  pub ready : CellsReady ws txt p m
+  pub ready : CellsStand ws txt p m
   pub pops : Pops (cell_cmp ws txt m.heads) m.n m.child m.next child' next' m.root rest (Some cell)
 
 -- The same, of what the heap answered.
 pub least_cell : {ws txt : List ℕ} {p : Str} {m : State} {cell rest : ℕ} {child' next' : List ℕ}
-    {o : Option ℕ} → CellsReady ws txt p m → o ≡ Some cell
+    {o : Option ℕ} → CellsStand ws txt p m → o ≡ Some cell
     → Pops (cell_cmp ws txt m.heads) m.n m.child m.next child' next' m.root rest o
     → Least-cell ws txt p m child' next' cell rest
 least_cell {ws} {txt} {p} {m} {cell} {rest} {child'} {next'} {o} y e f =
@@ -267,7 +267,7 @@ least_cell {ws} {txt} {p} {m} {cell} {rest} {child'} {next'} {o} y e f =
 
 module _ {ws txt : List ℕ} {p : Str} {m : State} {cell rest : ℕ} {child' next' : List ℕ}
     (k : Least-cell ws txt p m child' next' cell rest) where
-  abbrev y : CellsReady ws txt p m
+  abbrev y : CellsStand ws txt p m
   y = k.ready
 
   abbrev g : Holding ws txt y.which y.level y.link p (labelled y.labels m) y.heap
@@ -294,7 +294,7 @@ module _ {ws txt : List ℕ} {p : Str} {m : State} {cell rest : ℕ} {child' nex
       (record { which = y.which; level = y.level; tree = cell_tree g cell popped_cell.0 }, (j.among popped_cell.2, j.begins))
 
   pub takes_last : None ≡ slice_get (later ws txt p (get_or m.roots cell 0) (get_or m.heads cell 0)) 0
-      → Takes ws txt p m (state (set m.roots cell 0) m.heads m.beginnings m.labels child' next' m.n rest m.last)
+      → TakesAll ws txt p m (state (set m.roots cell 0) m.heads m.beginnings m.labels child' next' m.n rest m.last)
       (Some (record { branch = get_or m.heads cell 0; label = get_or m.labels cell 0; cell = cell }))
   takes_last e =
       takes_some k.pops (cell_small, refl) refl refl refl
@@ -330,7 +330,7 @@ module _ {ws txt : List ℕ} {p : Str} {m : State} {cell rest : ℕ} {child' nex
     pub takes_next : {top : ℕ} {child'' next'' : List ℕ}
         → ((n : ℕ) → n ≤ 96 → cell < n
         → Inserts (cell_cmp ws txt (set m.heads cell r)) n child' next' child'' next'' top rest cell)
-        → Takes ws txt p m
+        → TakesAll ws txt p m
         (state m.roots (set m.heads cell r)
         (with_beginning ws txt m.beginnings cell r) m.labels child'' next'' m.n top m.last)
         (Some (record { branch = get_or m.heads cell 0; label = get_or m.labels cell 0; cell = cell }))

@@ -220,8 +220,14 @@ TookIn ws txt w ℓ x p m m' (Some r) EmptyHeap = ⊥
 TookIn ws txt w ℓ x p m m' None (HeapOf c hh) = ⊥
 TookIn ws txt w ℓ x p m m' (Some r) (HeapOf c hh) = TookCell ws txt w ℓ x p m m' r c hh
 
--- The same, for any labels and whatever heap the cells have. How many cells there are, their labels and the last branch given stay.
+-- The same, for whatever heap the cells have. The last branch given stays.
 pub record Takes (ws txt : List ℕ) (p : Str) (m m' : State) (taken : Answer Given) : Type 0 where
+  pub took : (w : Which) (ℓ : Level) (x : ℕ) (h : Heap ℕ) → Holding ws txt w ℓ x p m h
+      → TookIn ws txt w ℓ x p m m' taken h
+  pub last_is : m'.last ≡ m.last
+
+-- The same, for any labels. How many cells there are, their labels and the last branch given stay.
+pub record TakesAll (ws txt : List ℕ) (p : Str) (m m' : State) (taken : Answer Given) : Type 0 where
   pub took : (labels : List ℕ) (w : Which) (ℓ : Level) (x : ℕ) (h : Heap ℕ)
       → Holding ws txt w ℓ x p (labelled labels m) h
       → TookIn ws txt w ℓ x p (labelled labels m) (labelled labels m') (relabelled labels taken) h
@@ -230,8 +236,16 @@ pub record Takes (ws txt : List ℕ) (p : Str) (m m' : State) (taken : Answer Gi
   pub labels_stay : m'.labels ≡ m.labels
   pub last_is : m'.last ≡ m.last
 
--- The cells, with some labels, have some heap.
+-- The cells have some heap.
 pub record CellsReady (ws txt : List ℕ) (p : Str) (m : State) : Type 0 where
+  pub which : Which
+  pub level : Level
+  pub link : ℕ
+  pub heap : Heap ℕ
+  pub holding : Holding ws txt which level link p m heap
+
+-- The cells, with some labels, have some heap.
+pub record CellsStand (ws txt : List ℕ) (p : Str) (m : State) : Type 0 where
   pub labels : List ℕ
   pub which : Which
   pub level : Level

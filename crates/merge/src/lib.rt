@@ -11,7 +11,7 @@ ghost use Rattle.find_tree.specs.Tree.{AnyTree};
 ghost use Rattle.find_list.specs.Names.{AnyList};
 ghost use Rattle.merge.specs.Single.{Single};
 ghost use Rattle.merge_heads.specs.Compare.{labels};
-ghost use Rattle.merge.specs.Stream.{state_of, CellsReady, Takes, Begins, Stands, Steps, CellLabel, last_after};
+ghost use Rattle.merge.specs.Stream.{state_of, CellsStand, TakesAll, Begins, Stands, Steps, CellLabel, last_after};
 
 use merge_collect::LabelledList;
 use merge_heads::{CELLS, Cell};
@@ -88,8 +88,8 @@ impl Merge {
 
     // Takes the least cell out of the heap, and puts it back with its tree's next match, if there is one.
     fn take(&mut self, words: &[u32], text: &[u8], prefix: &[u8]) -> Option<Given>
-        requires { CellsReady words.now text.now prefix.now (state_of self.old) }
-        ensures { Takes words.now text.now prefix.now (state_of self.old) (state_of self.new) result }
+        requires { CellsStand words.now text.now prefix.now (state_of self.old) }
+        ensures { TakesAll words.now text.now prefix.now (state_of self.old) (state_of self.new) result }
     {
         let least = self.heap.pop(words, text, &self.cells)?;
         let cell = self.cells[least];

@@ -7,21 +7,21 @@ use Rattle.std.proofs.lemmas.Option.{none-some, same_Some}
 use Rattle.source.specs.Shared.{same}
 use Rattle.memory.specs.Layout.{key_at}
 use Rattle.merge.specs.Stream.{state_of}
-use Rattle.merge.proofs.Steps.{passing_ready, passing_end, passing_fewer, passing_branch, passing_last, passing_on, passing_gives, passing_label}
+use Rattle.merge.proofs.Steps.{all_ready, all_end, all_fewer, all_branch, all_last, all_on, all_gives, passing_label}
 use Rattle.merge.proofs.Merge.next.Goals as goal
 use Rattle.merge.proofs.Merge.next.Goals.{in-Some-last, in-None}
 
 pub take-requires : goal.take-requires
 take-requires c =
-    passing_ready c.loop-given.invariant c.requires
+    all_ready c.loop-given.invariant c.requires
 
 pub same_key-again-requires-clause-a_nonzero : goal.same_key-again-requires-clause-a_nonzero
 same_key-again-requires-clause-a_nonzero c =
-    passing_branch c.loop-given.invariant c.requires (rw c.in-Some.is at c.take.ensures)
+    all_branch c.loop-given.invariant c.requires (rw c.in-Some.is at c.take.ensures)
 
 pub same_key-again-requires-clause-b_nonzero : goal.same_key-again-requires-clause-b_nonzero
 same_key-again-requires-clause-b_nonzero c =
-    passing_last c.loop-given.invariant c.requires (rw c.in-Some.is at c.take.ensures) c.in-Some-last.is
+    all_last c.loop-given.invariant c.requires (rw c.in-Some.is at c.take.ensures) c.in-Some-last.is
 
 pub returns-then-not-again-clause-gives : goal.returns-then-not-again-clause-gives
 returns-then-not-again-clause-gives c =
@@ -34,7 +34,7 @@ returns-then-not-again-clause-gives c =
           (sym w.same_key-again.ensures ∙ sym w.again-is ∙ c.if-not-again.true)
       | in-None w ↦ λ l e. absurd (none-some l (sym w.in-None.is ∙ e))
     ] in
-    passing_gives c.loop-given.invariant (rw c.in-Some.is at c.take.ensures) new
+    all_gives c.loop-given.invariant (rw c.in-Some.is at c.take.ensures) new
 
 pub returns-then-not-again-clause-label_is : goal.returns-then-not-again-clause-label_is
 returns-then-not-again-clause-label_is c =
@@ -50,21 +50,21 @@ returns-then-not-again-clause-labels_stay c =
 
 pub loop-given-smaller : goal.loop-given-smaller
 loop-given-smaller c =
-    passing_fewer c.loop-given.invariant c.requires (rw c.in-Some.is at c.take.ensures)
+    all_fewer c.loop-given.invariant c.requires (rw c.in-Some.is at c.take.ensures)
 
 pub loop-given-preserved : goal.loop-given-preserved
 loop-given-preserved c =
     elim c.match-self.branch [
       | in-Some-last w ↦
-          passing_on c.loop-given.invariant (rw c.in-Some.is at c.take.ensures)
-          (passing_fewer c.loop-given.invariant c.requires (rw c.in-Some.is at c.take.ensures)) w.in-Some-last.is
+          all_on c.loop-given.invariant (rw c.in-Some.is at c.take.ensures)
+          (all_fewer c.loop-given.invariant c.requires (rw c.in-Some.is at c.take.ensures)) w.in-Some-last.is
           (sym w.same_key-again.ensures ∙ sym w.again-is ∙ c.if-not-again.false)
       | in-None w ↦ absurd (true≢false (sym c.if-not-again.false ∙ w.again-is))
     ]
 
 pub returns-clause-gives : goal.returns-clause-gives
 returns-clause-gives c =
-    passing_end c.loop-given.invariant (state_of c.take.new.self) (rw c.in_default.is at c.take.ensures)
+    all_end c.loop-given.invariant (state_of c.take.new.self) (rw c.in_default.is at c.take.ensures)
 
 pub returns-clause-n_stays : goal.returns-clause-n_stays
 returns-clause-n_stays c =
