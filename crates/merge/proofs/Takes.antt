@@ -29,7 +29,7 @@ use Rattle.find_tree.specs.Links.{branches, BranchOf}
 use Rattle.std.specs.Prelude.{slice_get}
 use Rattle.merge_collect.proofs.Collected.{no_first}
 use Rattle.find_list.specs.Entries.{Entry, entry_key}
-use Rattle.merge.specs.Stream.{later, run_at, left, Holding, State, state, labelled, relabelled, CellLabel, TookCell, TookIn, TakesAll, CellsStand}
+use Rattle.merge.specs.Stream.{later, run_at, left, Holding, State, state, labelled, relabelled, CellLabel, TookCell, TookIn, TakesAll, CellsReady, CellsStand}
 use Rattle.merge.specs.declared.Given.{Given}
 use Rattle.merge.proofs.Cells.{Next, later_next, branch_head, cell_tree, next_branch, cell_stands, remaining_less}
 use Rattle.memory.proofs.At.{no_link}
@@ -251,12 +251,12 @@ module _ {ws txt : List ℕ} {p : Str} {m : State} {child' next' : List ℕ} whe
 -- ---- What take answers, and what its calls ask, once the heap gave the cell
 
 pub record Least-cell (ws txt : List ℕ) (p : Str) (m : State) (child' next' : List ℕ) (cell rest : ℕ) : Type 0 where
-  pub ready : CellsStand ws txt p m
+  pub ready : CellsReady ws txt p m
   pub pops : Pops (cell_cmp ws txt m.heads) m.n m.child m.next child' next' m.root rest (Some cell)
 
 -- The same, of what the heap answered.
 pub least_cell : {ws txt : List ℕ} {p : Str} {m : State} {cell rest : ℕ} {child' next' : List ℕ}
-    {o : Option ℕ} → CellsStand ws txt p m → o ≡ Some cell
+    {o : Option ℕ} → CellsReady ws txt p m → o ≡ Some cell
     → Pops (cell_cmp ws txt m.heads) m.n m.child m.next child' next' m.root rest o
     → Least-cell ws txt p m child' next' cell rest
 least_cell {ws} {txt} {p} {m} {cell} {rest} {child'} {next'} {o} y e f =
@@ -267,10 +267,10 @@ least_cell {ws} {txt} {p} {m} {cell} {rest} {child'} {next'} {o} y e f =
 
 module _ {ws txt : List ℕ} {p : Str} {m : State} {cell rest : ℕ} {child' next' : List ℕ}
     (k : Least-cell ws txt p m child' next' cell rest) where
-  abbrev y : CellsStand ws txt p m
+  abbrev y : CellsReady ws txt p m
   y = k.ready
 
-  abbrev g : Holding ws txt y.which y.level y.link p (labelled y.labels m) y.heap
+  abbrev g : Holding ws txt y.which y.level y.link p m y.heap
   g = y.holding
 
   popped_cell : (cell < m.n) × ((rest ≡ 96 → ⊥) → rest < m.n) × (0 < get_or m.roots cell 0)
@@ -292,14 +292,6 @@ module _ {ws txt : List ℕ} {p : Str} {m : State} {cell rest : ℕ} {child' nex
   next_asks =
       let j = g.cells cell popped_cell.0 in
       (record { which = y.which; level = y.level; tree = cell_tree g cell popped_cell.0 }, (j.among popped_cell.2, j.begins))
-
-  pub takes_last : None ≡ slice_get (later ws txt p (get_or m.roots cell 0) (get_or m.heads cell 0)) 0
-      → TakesAll ws txt p m (state (set m.roots cell 0) m.heads m.beginnings m.labels child' next' m.n rest m.last)
-      (Some (record { branch = get_or m.heads cell 0; label = get_or m.labels cell 0; cell = cell }))
-  takes_last e =
-      takes_some k.pops (cell_small, refl) refl refl refl
-      (λ labels w v x c hh g q made.
-      rw q (took_last g rest child' next' made (no_first (later ws txt p (get_or m.roots c 0) (get_or m.heads c 0)) (rw q at e))))
 
   module _ {r : ℕ} (e : Some r ≡ slice_get (later ws txt p (get_or m.roots cell 0) (get_or m.heads cell 0)) 0) where
     pub next_in : TextIn ws txt r × (cell < 96)
@@ -327,6 +319,42 @@ module _ {ws txt : List ℕ} {p : Str} {m : State} {cell rest : ℕ} {child' nex
         × Head ws txt (set m.heads cell r) (with_beginning ws txt m.beginnings cell r) cell
     insert_asks = ((λ k. next_heads rest (popped_cell.1 k)), next_heads cell popped_cell.0)
 
+-- ---- The same, with some labels
+
+-- The cells are ready with their labels.
+pub ready_at : {ws txt : List ℕ} {p : Str} {m : State} (y : CellsStand ws txt p m)
+    → CellsReady ws txt p (labelled y.labels m)
+ready_at y = record { which = y.which; level = y.level; link = y.link; heap = y.heap; holding = y.holding }
+
+pub record LeastStand (ws txt : List ℕ) (p : Str) (m : State) (child' next' : List ℕ) (cell rest : ℕ) : Type 0 where
+  pub ready : CellsStand ws txt p m
+  pub pops : Pops (cell_cmp ws txt m.heads) m.n m.child m.next child' next' m.root rest (Some cell)
+
+pub least_at : {ws txt : List ℕ} {p : Str} {m : State} {child' next' : List ℕ} {cell rest : ℕ}
+    (s : LeastStand ws txt p m child' next' cell rest)
+    → Least-cell ws txt p (labelled s.ready.labels m) child' next' cell rest
+least_at s = record { ready = ready_at s.ready; pops = s.pops }
+
+pub least_stand : {ws txt : List ℕ} {p : Str} {m : State} {cell rest : ℕ} {child' next' : List ℕ}
+    {o : Option ℕ} → CellsStand ws txt p m → o ≡ Some cell
+    → Pops (cell_cmp ws txt m.heads) m.n m.child m.next child' next' m.root rest o
+    → LeastStand ws txt p m child' next' cell rest
+least_stand {m = m} y e f = record { ready = y; pops = (least_cell {m = labelled y.labels m} (ready_at y) e f).pops }
+
+module _ {ws txt : List ℕ} {p : Str} {m : State} {cell rest : ℕ} {child' next' : List ℕ}
+    (s : LeastStand ws txt p m child' next' cell rest) where
+  abbrev k : Least-cell ws txt p (labelled s.ready.labels m) child' next' cell rest
+  k = least_at s
+
+  pub takes_last : None ≡ slice_get (later ws txt p (get_or m.roots cell 0) (get_or m.heads cell 0)) 0
+      → TakesAll ws txt p m (state (set m.roots cell 0) m.heads m.beginnings m.labels child' next' m.n rest m.last)
+      (Some (record { branch = get_or m.heads cell 0; label = get_or m.labels cell 0; cell = cell }))
+  takes_last e =
+      takes_some s.pops (cell_small k, refl) refl refl refl
+      (λ labels w v x c hh g q made.
+      rw q (took_last g rest child' next' made (no_first (later ws txt p (get_or m.roots c 0) (get_or m.heads c 0)) (rw q at e))))
+
+  module _ {r : ℕ} (e : Some r ≡ slice_get (later ws txt p (get_or m.roots cell 0) (get_or m.heads cell 0)) 0) where
     pub takes_next : {top : ℕ} {child'' next'' : List ℕ}
         → ((n : ℕ) → n ≤ 96 → cell < n
         → Inserts (cell_cmp ws txt (set m.heads cell r)) n child' next' child'' next'' top rest cell)
@@ -335,7 +363,7 @@ module _ {ws txt : List ℕ} {p : Str} {m : State} {cell rest : ℕ} {child' nex
         (with_beginning ws txt m.beginnings cell r) m.labels child'' next'' m.n top m.last)
         (Some (record { branch = get_or m.heads cell 0; label = get_or m.labels cell 0; cell = cell }))
     takes_next {top} {child''} {next''} inserted =
-        takes_some k.pops (cell_small, refl) refl refl refl
+        takes_some s.pops (cell_small k, refl) refl refl refl
         (λ labels w v x c hh g q made.
         rw q (took_next g r (later_next (cell_tree g c (below g)) p (get_or m.heads c 0) r (rw q at e)) rest top child' next' child'' next'' made
-        (rw q at (inserted m.n y.holding.few popped_cell.0))))
+        (rw q at (inserted m.n k.ready.holding.few (popped_cell k).0))))
