@@ -214,6 +214,7 @@ pub record PassingAll (ws txt : List ℕ) (p : Str) (m m' : State) : Type 0 wher
   pub labels_stay : m'.labels ≡ m.labels
   pub last_is : m'.last ≡ m.last
 
+-- The same, the labels being these.
 pub passing_at : {ws txt : List ℕ} {p : Str} {m m' : State} → PassingAll ws txt p m m' → (labels : List ℕ)
     → Passing ws txt p (labelled labels m) (labelled labels m')
 passing_at o labels = record { says = o.says labels; fewer = o.fewer }

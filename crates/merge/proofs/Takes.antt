@@ -326,15 +326,18 @@ pub ready_at : {ws txt : List ℕ} {p : Str} {m : State} (y : CellsStand ws txt 
     → CellsReady ws txt p (labelled y.labels m)
 ready_at y = record { which = y.which; level = y.level; link = y.link; heap = y.heap; holding = y.holding }
 
+-- The heap gave the cell, and the cells stand.
 pub record LeastStand (ws txt : List ℕ) (p : Str) (m : State) (child' next' : List ℕ) (cell rest : ℕ) : Type 0 where
   pub ready : CellsStand ws txt p m
   pub pops : Pops (cell_cmp ws txt m.heads) m.n m.child m.next child' next' m.root rest (Some cell)
 
+-- With their labels.
 pub least_at : {ws txt : List ℕ} {p : Str} {m : State} {child' next' : List ℕ} {cell rest : ℕ}
     (s : LeastStand ws txt p m child' next' cell rest)
     → Least-cell ws txt p (labelled s.ready.labels m) child' next' cell rest
 least_at s = record { ready = ready_at s.ready; pops = s.pops }
 
+-- The same, of what the heap answered.
 pub least_stand : {ws txt : List ℕ} {p : Str} {m : State} {cell rest : ℕ} {child' next' : List ℕ}
     {o : Option ℕ} → CellsStand ws txt p m → o ≡ Some cell
     → Pops (cell_cmp ws txt m.heads) m.n m.child m.next child' next' m.root rest o
