@@ -246,7 +246,7 @@ module _ {ws txt : List ℕ} {p : Str} {m m' : State} (o : PassingAll ws txt p m
     pub all_last : {l : ℕ} → m''.last ≡ Some l → (0 < l) × AnyTree ws txt l
     all_last e = passing_last (passing_at o s.labels) s.any (takes_at takes s.labels) e
 
--- Nothing is given of no entries alone, whatever is left.
+-- That none is given says that no entries are left, and nothing of the state after it.
 none_given : (ws txt : List ℕ) (w : Which) (ℓ : Level) (x : ℕ) (p : Str) (m m' m'' : State) (es : List Entry)
     → GivesIn ws txt w ℓ x p m es None m' → GivesIn ws txt w ℓ x p m es None m''
 none_given ws txt w ℓ x p m m' m'' [] g = tt
